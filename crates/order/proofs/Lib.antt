@@ -1,0 +1,11 @@
+pub mod Decide
+pub mod Sets
+pub mod Tables
+pub mod Steps
+pub mod Exactness
+pub mod Bytes
+pub mod Counts
+pub mod Refusals
+pub mod Pairs
+pub mod Sound
+pub mod Taking

@@ -1,0 +1,12 @@
+pub mod Sessions
+pub mod Refusals
+pub mod Fresh
+pub mod Tell
+pub mod Runs
+pub mod Next
+pub mod Buffers
+pub mod Hierarchy
+pub mod Ladder
+pub mod Book
+pub mod Read
+pub mod Write

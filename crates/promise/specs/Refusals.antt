@@ -1,0 +1,53 @@
+-- Document 01's refusal numbers outside books, each with its "When, exactly"; and what every call but fresh and reading starts with.
+-- Assumes nothing.
+use mathlib.Core.Path.{_≡_}
+use mathlib.Core.Logic.{_≢_, _⊎_}
+use mathlib.Core.List.{List, _∷_}
+use Prim.Native.Nat.{ℕ, _+_, _*_, _-_, _≤_, _<_}
+use lib.ListN.{length}
+use Rattle.order.specs.Facts.{Fact}
+use Rattle.order.specs.Tables.{mark, Sound, Contradicts, opens}
+use Rattle.order.specs.Refusals.{Condition}
+use Rattle.promise.specs.declared.Session.{Session}
+
+-- "n is 0 or above 128"
+abbrev pub badCount : ℕ → Condition
+badCount n = record { number = 1; when = (n ≡ 0) ⊎ (128 < n) }
+
+-- "table shorter than n*n"
+abbrev pub shortTable : ℕ → List ℕ → Condition
+shortTable n t = record { number = 2; when = length t < n * n }
+
+-- "table not sound"
+abbrev pub notSound : ℕ → List ℕ → Condition
+notSound n t = record { number = 3; when = ¬ Sound n t }
+
+-- "tally plus open pairs exceeds n*n-n"
+abbrev pub overcounted : Session → List ℕ → Condition
+overcounted s t =
+    record { number = 4; when = s .classes * s .classes - s .classes < s .tests + opens (s .classes) t }
+
+-- "a class number is n or more"
+abbrev pub noSuchClass : ℕ → ℕ → ℕ → Condition
+noSuchClass n a b = record { number = 5; when = (n ≤ a) ⊎ (n ≤ b) }
+
+-- "the fact contradicts"
+abbrev pub contradicted : ℕ → List ℕ → Fact → Condition
+contradicted n t f = record { number = 6; when = Contradicts n t f }
+
+-- "a pair is still open"
+abbrev pub stillOpen : ℕ → List ℕ → Condition
+stillOpen n t = record { number = 7; when = 0 < opens n t }
+
+-- "an output buffer is shorter than what is to be written there"
+abbrev pub noRoom : Type 0 → Condition
+noRoom shorter = record { number = 8; when = shorter }
+
+-- "ladder: a isn't under b"
+abbrev pub noLadder : ℕ → List ℕ → ℕ → ℕ → Condition
+noLadder n t a b = record { number = 9; when = mark n t a b ≢ 1 }
+
+-- "every other call except reading starts 1, 2, 3, 4", and goes on with refusals of its own
+abbrev pub standing : Session → List ℕ → List Condition → List Condition
+standing s t own =
+    badCount (s .classes) ∷ shortTable (s .classes) t ∷ notSound (s .classes) t ∷ overcounted s t ∷ own

@@ -1,0 +1,28 @@
+// The values that the public calls take and give. There is no code here; specs/ says what each call owes.
+
+// The class count, and the tally of tests.
+pub struct Session {
+    pub classes: usize,
+    pub tests: usize,
+}
+
+// What fresh, tell, answer and read give: the refusal number, 0 where the call was accepted; its place, 0 outside books; the session
+// that holds from now on.
+pub struct Reply {
+    pub number: u8,
+    pub place: usize,
+    pub session: Session,
+}
+
+// What next gives: the pair to ask about, or that none is open.
+pub enum Question {
+    Ask { lower: usize, upper: usize },
+    Done,
+    Refused { number: u8, place: usize },
+}
+
+// What hierarchy, ladder and write give: how many steps, rungs or bytes were written.
+pub enum Wrote {
+    Count(usize),
+    Refused { number: u8, place: usize },
+}
