@@ -18,9 +18,8 @@ use mathlib.Core.List.{
 }
 use Prim.Native.Nat.{ℕ, zero, suc, _+_, _*_, _≤_, _<_}
 use native.Mathlib.Decide.{ℕ-discrete}
-use native.Mathlib.Nat.{suc-mul}
 use native.Mathlib.Omega.{arith}
-use lib.ListN.{length, length-append}
+use lib.ListN.{length}
 use Rattle.order.specs.Pairs.{Pair, Before, Rising, Lists, bytesOf}
 
 pub before-not : (p q : Pair) → Before p q → Before q p → ⊥
@@ -197,75 +196,3 @@ module _ (P : ℕ → ℕ → Type 0) (dec : (a b : ℕ) → Dec (P a b)) where
 pub length-bytes : (l : List Pair) → length (bytesOf l) ≡ 2 * length l
 length-bytes [] = refl
 length-bytes (p ∷ l) = omega (arith, length-bytes l)
-
--- two decided properties that never both hold, and neither on the diagonal, have at most n * n - n pairs together
-module _ (P Q : ℕ → ℕ → Type 0) (p : (a b : ℕ) → Dec (P a b)) (q : (a b : ℕ) → Dec (Q a b)) where
-  kept-two :
-      {A B : Type 0} (d : Dec A) (e : Dec B) (x : Pair) → (A → B → ⊥) → length (kept d x) + length (kept e x) ≤ 1
-  kept-two (yes a) (yes b) x h = absurd (h a b)
-  kept-two (yes a) (no b) x h = omega arith
-  kept-two (no a) (yes b) x h = omega arith
-  kept-two (no a) (no b) x h = omega arith
-
-  kept-none : {A : Type 0} (d : Dec A) (x : Pair) → ¬ A → length (kept d x) ≡ 0
-  kept-none (yes a) x h = absurd (h a)
-  kept-none (no a) x h = refl
-
-  module _ (never : (a b : ℕ) → P a b → Q a b → ⊥) (off : (a : ℕ) → (¬ P a a) × (¬ Q a a)) where
-    -- the pairs of row a in the first k columns, and one less where the diagonal is among them
-    row-two : (a k : ℕ) → length (rowTo P p a k) + length (rowTo Q q a k) ≤ k
-    unfolding rowTo
-    row-two a zero = omega arith
-    row-two a (suc b) =
-        omega (
-          arith,
-          row-two a b,
-          length-append (rowTo P p a b) (kept (p a b) (a, b)),
-          length-append (rowTo Q q a b) (kept (q a b) (a, b)),
-          kept-two (p a b) (q a b) (a, b) (never a b),
-        )
-
-    row-less : (a k : ℕ) → a < k → length (rowTo P p a k) + length (rowTo Q q a k) < k
-    unfolding rowTo
-    row-less a zero h = absurd (omega arith)
-    row-less a (suc b) h = go (ℕ-discrete a b) (row-less a b)
-      where
-        ps : length (rowTo P p a b ++ kept (p a b) (a, b)) ≡ length (rowTo P p a b) + length (kept (p a b) (a, b))
-        ps = length-append (rowTo P p a b) (kept (p a b) (a, b))
-
-        qs : length (rowTo Q q a b ++ kept (q a b) (a, b)) ≡ length (rowTo Q q a b) + length (kept (q a b) (a, b))
-        qs = length-append (rowTo Q q a b) (kept (q a b) (a, b))
-
-        go :
-            Dec (a ≡ b) → (a < b → length (rowTo P p a b) + length (rowTo Q q a b) < b)
-            → length (rowTo P p a b ++ kept (p a b) (a, b)) + length (rowTo Q q a b ++ kept (q a b) (a, b)) < suc b
-        go (yes e) below =
-            omega (
-              arith,
-              row-two a b,
-              ps,
-              qs,
-              kept-none (p a b) (a, b) (λ z. off b .0 (rw e at z)),
-              kept-none (q a b) (a, b) (λ z. off b .1 (rw e at z)),
-            )
-        go (no e) below =
-            omega (arith, below (omega arith), ps, qs, kept-two (p a b) (q a b) (a, b) (never a b))
-
-    rows-two : (n k : ℕ) → k ≤ n → length (rowsTo P p n k) + length (rowsTo Q q n k) + k ≤ k * n
-    unfolding rowsTo
-    rows-two n zero h = omega arith
-    rows-two n (suc a) h =
-        omega (
-          arith,
-          rows-two n a (omega arith),
-          length-append (rowsTo P p n a) (rowTo P p a n),
-          length-append (rowsTo Q q n a) (rowTo Q q a n),
-          row-less a n (omega arith),
-          suc-mul a n,
-        )
-
-    pub pairs-two : {n : ℕ} {l m : List Pair} → Lists n P l → Lists n Q m → length l + length m + n ≤ n * n
-    pairs-two {n} {l} {m} hl hm =
-        let el : length l ≡ length (rowsTo P p n n) = ap length (lists-unique hl (pairs-listed P p n)) in
-        let em : length m ≡ length (rowsTo Q q n n) = ap length (lists-unique hm (pairs-listed Q q n)) in
-        omega (arith, rows-two n n (omega arith))

@@ -3,12 +3,20 @@
 use mathlib.Core.Path.{_≡_}
 use mathlib.Core.List.{List, [], _∷_}
 use Prim.Native.Nat.{ℕ, zero, suc, _+_}
-use Rattle.order.specs.Facts.{Fact}
-use Rattle.order.specs.Tables.{mark}
+use Rattle.order.specs.Facts.{Fact, Facts, Within}
+use Rattle.order.specs.Tables.{mark, TableOf}
+use Rattle.order.specs.Refusals.{First}
 use Rattle.promise.specs.declared.Session.{Session}
 use Rattle.promise.specs.declared.Reply.{Reply}
+use Rattle.promise.specs.Refusals.{standing}
 use Rattle.promise.specs.Fresh.{Freshened}
 use Rattle.promise.specs.Tell.{Kind, adds, Took}
+
+-- The table t is that of the facts of S, with a session that it can be used with: refusals 1 to 4 are not due.
+pub record StandsFor (S : Facts) (s : Session) (t : List ℕ) : Type 0 where
+  pub within : Within (s .classes) S
+  pub table : TableOf (s .classes) S t
+  pub stands : First (standing s t []) 0
 
 -- a call that was made, and the refusal number that it got
 pub record Made : Type 0 where

@@ -1,0 +1,80 @@
+-- A call that writes to a lent buffer: two outcomes for one input are equal, there is one, and the buffer keeps its length, given that
+-- what is to be written is fixed and there.
+-- Assumes nothing.
+use mathlib.Core.Path.{_≡_, refl, sym, _∙_, ap, ap₂, subst}
+use mathlib.Core.Logic.{_≢_}
+use mathlib.Core.List.{List}
+use Prim.Native.Nat.{ℕ, _≤_, _<_}
+use native.Mathlib.Decide.{ℕ-discrete, decLt}
+use native.Mathlib.Omega.{arith}
+use lib.ListN.{length, drop, length-append, length-drop}
+use Rattle.order.specs.Refusals.{Condition, First}
+use Rattle.order.proofs.Refusals.{first-unique}
+use Rattle.promise.specs.declared.Wrote.{Wrote}
+use Rattle.promise.specs.declared.Wrote.the-variants.{Count, Refused}
+use Rattle.promise.specs.Buffers.{numberOf, placeOf, over, TooShort, WrittenIn, Writes}
+
+-- a buffer that is not too short keeps its length
+pub over-length :
+    (P : List ℕ → Type 0) (w out : List ℕ) → P w → ¬ TooShort P out → length (over w out) ≡ length out
+over-length P w out p room = go (decLt (length out) (length w))
+  where
+    go : Dec (length out < length w) → length (over w out) ≡ length out
+    go (yes h) = absurd (room (w, p, h))
+    go (no h) = omega (arith, length-append w (drop (length w) out), length-drop (length w) out)
+
+-- whether a buffer is too short, where one list is to be written
+unfoldable pub too-short? :
+    (P : List ℕ → Type 0) (w : List ℕ) → P w → ((u v : List ℕ) → P u → P v → u ≡ v) → (out : List ℕ)
+    → Dec (TooShort P out)
+too-short? P w p unique out = go (decLt (length out) (length w))
+  where
+    go : Dec (length out < length w) → Dec (TooShort P out)
+    go (yes h) = yes (w, p, h)
+    go (no h) =
+        no (λ z. h (subst (λ (u : List ℕ). length out < length u) (unique (z .0) w (z .1) p) (z .2)))
+
+module _ (refusals : List Condition) (P : List ℕ → Type 0) (out : List ℕ) where
+  pub writes-unique :
+      (First refusals 0 → (u v : List ℕ) → P u → P v → u ≡ v) → {r r₂ : Wrote} {out′ out₂ : List ℕ}
+      → Writes refusals P out r out′ → Writes refusals P out r₂ out₂ → (r ≡ r₂) × (out′ ≡ out₂)
+  writes-unique unique {r} {r₂} {out′} {out₂} h h₂ =
+      go r r₂ (first-unique refusals (numberOf r) (numberOf r₂) (h .number) (h₂ .number))
+      (h .place ∙ sym (h₂ .place)) (h .number) (h .buffer) (h₂ .buffer)
+    where
+      go :
+          (r r₂ : Wrote) → numberOf r ≡ numberOf r₂ → placeOf r ≡ placeOf r₂ → First refusals (numberOf r)
+          → WrittenIn P out out′ r → WrittenIn P out out₂ r₂ → (r ≡ r₂) × (out′ ≡ out₂)
+      go (Count c) (Count c₂) e z f x y =
+          let w = unique f (x .0) (y .0) (x .1) (y .1) in (
+            ap Count (x .2 ∙ ap (λ (u : List ℕ). length u) w ∙ sym (y .2)),
+            x .3 ∙ ap (λ (u : List ℕ). over u out) w ∙ sym (y .3),
+          )
+      go (Count c) (Refused k p) e z f x y = absurd (y .0 (sym e))
+      go (Refused k p) (Count c) e z f x y = absurd (x .0 e)
+      go (Refused k p) (Refused k₂ p₂) e z f x y = (ap₂ Refused e z, x .1 ∙ sym (y .1))
+
+  unfoldable pub writes-there :
+      (k : ℕ) × First refusals k → (First refusals 0 → (w : List ℕ) × P w)
+      → (r : Wrote) × (out′ : List ℕ) × Writes refusals P out r out′
+  writes-there (k, f) made = go (ℕ-discrete k 0)
+    where
+      go : Dec (k ≡ 0) → (r : Wrote) × (out′ : List ℕ) × Writes refusals P out r out′
+      go (yes e) =
+          let g = rw e at f in
+          let w = made g in (
+            Count (length (w .0)),
+            over (w .0) out,
+            record { number = g; place = refl; buffer = (w .0, w .1, refl, refl) },
+          )
+      go (no e) = (Refused k 0, out, record { number = f; place = refl; buffer = (e, refl) })
+
+  -- the length of a buffer stays
+  pub writes-length :
+      (First refusals 0 → ¬ TooShort P out) → {r : Wrote} {out′ : List ℕ} → Writes refusals P out r out′
+      → length out′ ≡ length out
+  writes-length room {r} {out′} h = go r (h .number) (h .buffer)
+    where
+      go : (r : Wrote) → First refusals (numberOf r) → WrittenIn P out out′ r → length out′ ≡ length out
+      go (Count c) f x = ap (λ (u : List ℕ). length u) (x .3) ∙ over-length P (x .0) out (x .1) (room f)
+      go (Refused k p) f x = ap (λ (u : List ℕ). length u) (x .1)

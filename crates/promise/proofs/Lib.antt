@@ -1,0 +1,14 @@
+pub mod Standing
+pub mod Replies
+pub mod Fresh
+pub mod Tell
+pub mod Runs
+pub mod Next
+pub mod Buffers
+pub mod Hierarchy
+pub mod Ladder
+pub mod Book
+pub mod Read
+pub mod Write
+pub mod Mantel
+pub mod Triangles

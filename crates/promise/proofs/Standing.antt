@@ -1,0 +1,85 @@
+-- Refusals 1 to 4: what holds where none of them is due, and that there is a first one or none.
+-- Assumes nothing.
+use mathlib.Core.Path.{_≡_, refl}
+use mathlib.Core.Logic.{_⊎_, inl, inr, ⊎-elim}
+use mathlib.Core.List.{List, []}
+use Prim.Native.Nat.{ℕ, _+_, _*_, _-_, _≤_, _<_}
+use native.Mathlib.Decide.{ℕ-discrete, decLt, decLe}
+use native.Mathlib.Nat.{mul-le-mul-right}
+use native.Mathlib.Omega.{arith}
+use lib.ListN.{length}
+use Rattle.order.specs.Facts.{Fact, Below}
+use Rattle.order.specs.Tables.{Sound, opens}
+use Rattle.order.specs.Refusals.{Condition, First}
+use Rattle.order.proofs.Decide.{stable, either, negated}
+use Rattle.order.proofs.Refusals.{Numbered, stage}
+use Rattle.order.proofs.Sound.{sound?}
+use Rattle.promise.specs.declared.Session.{Session}
+use Rattle.promise.specs.Refusals.{standing}
+
+-- none of the refusals 1 to 4 is due
+pub record Stands (s : Session) (t : List ℕ) : Type 0 where
+  pub some : 1 ≤ s .classes
+  pub few : s .classes ≤ 128
+  pub room : s .classes * s .classes ≤ length t
+  pub sound : Sound (s .classes) t
+  pub count : s .tests + opens (s .classes) t + s .classes ≤ s .classes * s .classes
+
+square : (n : ℕ) → 1 ≤ n → n ≤ n * n
+square n h = omega (arith, mul-le-mul-right n h)
+
+pub standing-passed :
+    (own : List Condition) {s : Session} {t : List ℕ} → First (standing s t own) 0 → Stands s t × First own 0
+standing-passed own {s} {t} (inl p) = absurd (omega (arith, p .1))
+standing-passed own {s} {t} (inr (p, inl q)) = absurd (omega (arith, q .1))
+standing-passed own {s} {t} (inr (p, inr (q, inl r))) = absurd (omega (arith, r .1))
+standing-passed own {s} {t} (inr (p, inr (q, inr (r, inl v)))) = absurd (omega (arith, v .1))
+standing-passed own {s} {t} (inr (p, inr (q, inr (r, inr (v, w))))) = (
+  record {
+    some = some;
+    few = stable (decLe (s .classes) 128) (λ z. p (inr (omega arith)));
+    room = omega arith;
+    sound = stable (sound? (s .classes) t) r;
+    count = omega (arith, square (s .classes) some);
+  },
+  w,
+)
+  where
+    some : 1 ≤ s .classes
+    some = stable (decLe 1 (s .classes)) (λ z. p (inl (omega arith)))
+
+pub stands-first :
+    (own : List Condition) {s : Session} {t : List ℕ} {k : ℕ} → Stands s t → First (standing s t own) k → First own k
+stands-first own st (inl (inl e, _)) = absurd (omega (arith, st .some))
+stands-first own st (inl (inr e, _)) = absurd (omega (arith, st .few))
+stands-first own st (inr (_, inl (e, _))) = absurd (omega (arith, st .room))
+stands-first own st (inr (_, inr (_, inl (e, _)))) = absurd (e (st .sound))
+stands-first own st (inr (_, inr (_, inr (_, inl (e, _))))) = absurd (omega (arith, st .count))
+stands-first own st (inr (_, inr (_, inr (_, inr (_, w))))) = w
+
+pub first-stands :
+    (own : List Condition) {s : Session} {t : List ℕ} {k : ℕ} → Stands s t → First own k → First (standing s t own) k
+first-stands own st h =
+    inr (
+      ⊎-elim (λ e. omega (arith, st .some)) (λ e. omega (arith, st .few)),
+      inr (
+        λ e. omega (arith, st .room),
+        inr (λ e. e (st .sound), inr (λ e. omega (arith, st .count), h)),
+      ),
+    )
+
+-- there is a first refusal, or none, where there is one of those that follow
+unfoldable pub standing-there :
+    (own : List Condition) (s : Session) (t : List ℕ) → (Stands s t → (k : ℕ) × First own k)
+    → (k : ℕ) × First (standing s t own) k
+standing-there own s t later =
+    stage 1 (either (ℕ-discrete (s .classes) 0) (decLt 128 (s .classes))) (λ p₁.
+    stage 2 (decLt (length t) (s .classes * s .classes)) (λ p₂.
+    stage 3 (negated (sound? (s .classes) t)) (λ p₃.
+    stage 4 (decLt (s .classes * s .classes - s .classes) (s .tests + opens (s .classes) t)) (λ p₄.
+    later (standing-passed [] (inr (p₁, inr (p₂, inr (p₃, inr (p₄, refl))))) .0)))))
+
+-- two classes of which neither is n or more
+pub below-of : (n a b : ℕ) → ¬ ((n ≤ a) ⊎ (n ≤ b)) → (a < n) × (b < n)
+below-of n a b h =
+    (stable (decLt a n) (λ z. h (inl (omega arith))), stable (decLt b n) (λ z. h (inr (omega arith))))
