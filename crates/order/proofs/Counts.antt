@@ -9,7 +9,7 @@ use native.Mathlib.Decide.{ℕ-discrete}
 use native.Mathlib.Omega.{arith}
 use lib.ListN.{getD}
 use Rattle.order.specs.Facts.{Fact, Facts, _with_, Below, Within}
-use Rattle.order.specs.Tables.{mark, TableOf, Marks, isOpen, opensTo, opens, SameMarks, markFor}
+use Rattle.order.specs.Tables.{mark, TableOf, Marks, isOpen, opensTo, opens}
 use Rattle.order.proofs.Bytes.{pair-below, pair-at}
 use Rattle.order.proofs.Sets.{old, new, within-with}
 use Rattle.order.proofs.Tables.{settled-stays, facts-in-marks, mark-for-settled}

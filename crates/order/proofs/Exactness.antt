@@ -1,7 +1,7 @@
 -- Exactness: a mark says what every order that agrees with the facts has in common, and a fact contradicts exactly when no order
 -- agrees with it and the facts before.
 -- Assumes nothing.
-use mathlib.Core.Path.{_≡_, refl, sym, ap}
+use mathlib.Core.Path.{_≡_}
 use mathlib.Core.Logic.{_↔_, _≢_, _⊎_, inl, inr}
 use mathlib.Core.Bool.{Bool, true, false}
 use mathlib.Core.List.{List}
@@ -10,7 +10,7 @@ use native.Mathlib.Omega.{arith}
 use Rattle.order.specs.Facts.{Fact, Facts, under, notUnder, _with_, Below, Within, Chain, Yes, No}
 use Rattle.order.specs.Tables.{mark, TableOf, Contradicts, markAgainst}
 use Rattle.order.specs.Orders.{Order, Agrees, Forced, Excluded, Impossible, Exact}
-use Rattle.order.proofs.Sets.{chain-append, no-closed, follows-one, new, unequal, yes-after-yes}
+use Rattle.order.proofs.Sets.{chain-append, no-closed, follows-one, new, yes-after-yes}
 use Rattle.order.proofs.Tables.{Mark, which}
 
 -- an order that agrees with S has what S says yes to, and lacks what S says no to

@@ -3,7 +3,7 @@
 use mathlib.Core.Path.{_≡_, refl, sym, subst, ap}
 use mathlib.Core.Logic.{_↔_, _⊎_, inl, inr}
 use mathlib.Core.Bool.{Bool, true, false}
-use mathlib.Core.List.{List, [], _∷_, List·Memᴰ·head, List·Memᴰ·tail}
+use mathlib.Core.List.{List, _∷_, List·Memᴰ·head, List·Memᴰ·tail}
 use Prim.Native.Nat.{ℕ}
 use Rattle.order.specs.Facts.{Fact, Facts, Listed, under, notUnder, _with_, _and_, _⊆_, Below, Within, Chain, Yes, No}
 
@@ -57,9 +57,6 @@ entails-subset {S} {S′} i = record { at = λ f s. follows-one S′ f (i f s) }
 
 pub entails-trans : {S S′ S″ : Facts} → Entails S S′ → Entails S′ S″ → Entails S S″
 entails-trans e e′ = record { at = λ f s. settled-entailed (f .holds) (f .lower) (f .upper) e (e′ .at f s) }
-
-pub entails-and : {S S′ S″ : Facts} → Entails S S′ → Entails S S″ → Entails S (S′ and S″)
-entails-and e e′ = record { at = λ f s. elim s [ inl i ↦ e .at f i | inr i ↦ e′ .at f i ] }
 
 pub old : (S : Facts) (f : Fact) → S ⊆ (S with f)
 old S f g h = inl h

@@ -1,7 +1,7 @@
 -- What one fact more does to each mark of a table, pointwise: the laws that code cites which takes a fact in.
 -- Assumes nothing.
 use mathlib.Core.Path.{_≡_}
-use mathlib.Core.Logic.{_↔_, _≢_, _⊎_, inl, inr, ⊎-map, Iff·symm, Iff·trans, Iff·and}
+use mathlib.Core.Logic.{_↔_, _≢_, _⊎_, ⊎-map, Iff·symm, Iff·trans, Iff·and}
 use mathlib.Core.List.{List}
 use Prim.Native.Nat.{ℕ, _<_}
 use Rattle.order.specs.Facts.{Facts, under, notUnder, _with_, Yes, No}

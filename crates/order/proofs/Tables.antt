@@ -1,28 +1,15 @@
 -- Laws of tables: a table of facts is sound, a sound table is that of its own marks, facts determine the marks, and one fact more.
 -- Assumes nothing.
-use mathlib.Core.Path.{_≡_, refl, sym}
-use mathlib.Core.Logic.{_↔_, _≢_, _⊎_, inl, inr}
+use mathlib.Core.Path.{_≡_, refl}
+use mathlib.Core.Logic.{_↔_, _≢_, inl, inr}
 use mathlib.Core.Bool.{Bool, true, false}
-use mathlib.Core.List.{List, []}
+use mathlib.Core.List.{List}
 use Prim.Native.Nat.{ℕ, zero, suc, _≤_, _<_}
 use native.Mathlib.Decide.{ℕ-discrete}
 use native.Mathlib.Omega.{arith}
 use Rattle.order.specs.Facts.{Fact, Facts, _with_, _⊆_, Within, Chain, Yes, No, Open}
 use Rattle.order.specs.Tables.{mark, Settles, TableOf, Sound, Marks, SameMarks, Fresh, markFor, markAgainst}
-use Rattle.order.proofs.Sets.{
-  Settled,
-  Follows,
-  follows-one,
-  chain-append,
-  no-closed,
-  Entails,
-  yes-entailed,
-  no-entailed,
-  settled-entailed,
-  entails-subset,
-  entails-with,
-  old,
-}
+use Rattle.order.proofs.Sets.{Settled, Follows, follows-one, chain-append, no-closed, Entails, yes-entailed, no-entailed, settled-entailed, entails-subset, entails-with, old}
 
 -- A mark is one of three.
 pub data Mark (m : ℕ) : Type 0 where
@@ -86,6 +73,41 @@ table-of-equals e e′ h =
           settles-map (yes-entailed e′, yes-entailed e) (no-entailed e′, no-entailed e) (h .at a b ha hb);
     }
 
+-- a sound table is the table of its own marks
+
+chain-marked :
+    {n : ℕ} {t : List ℕ} {a b : ℕ} → Sound n t → a < n → Yes (Marks n t) a b → (b < n) × (mark n t a b ≡ 1)
+chain-marked {a = a} s ha Chain.stop = (ha, s .diagonal a ha)
+chain-marked s ha (Chain.step {a = a} {b = b} {c = c} f p) =
+    let r = chain-marked s (f .upper-below) p in
+    (r .0, s .transitive a b c (f .lower-below) (f .upper-below) (r .0) (f .settled) (r .1))
+
+pub sound-table : {n : ℕ} {t : List ℕ} → Sound n t → TableOf n (Marks n t) t
+sound-table {n} {t} s =
+    record {
+      at = λ a b ha hb.
+          record {
+            small = s .small a b ha hb;
+            one = (λ e. marked true a b ha hb e, λ p. chain-marked s ha p .1);
+            two = (λ e. marked false a b ha hb e, back a b ha hb);
+          };
+    }
+  where
+    marked : (v : Bool) (a b : ℕ) → a < n → b < n → mark n t a b ≡ markFor v → Settled (Marks n t) v a b
+    marked v a b ha hb e =
+        follows-one (Marks n t) (record { lower = a; upper = b; holds = v })
+        (record { lower-below = ha; upper-below = hb; settled = e })
+
+    back : (a b : ℕ) → a < n → b < n → No (Marks n t) a b → mark n t a b ≡ 2
+    back a b ha hb h =
+        let c<n = h .fact .lower-below in
+        let d<n = h .fact .upper-below in
+        s .pruned a b (h .c) (h .d) ha hb c<n d<n (h .fact .settled) (chain-marked s c<n (h .from) .1)
+        (chain-marked s hb (h .to) .1)
+
+pub marks-within : {n : ℕ} {t : List ℕ} → Within n (Marks n t)
+marks-within f m = record { lower-below = m .lower-below; upper-below = m .upper-below }
+
 module _ {n : ℕ} {S : Facts} {t : List ℕ} (h : TableOf n S t) where
   -- the mark that a verdict asks for stands exactly where the facts settle the pair so
   pub mark-settled : (v : Bool) (a b : ℕ) → a < n → b < n → (mark n t a b ≡ markFor v) ↔ Settled S v a b
@@ -141,41 +163,6 @@ module _ {n : ℕ} {S : Facts} {t : List ℕ} (h : TableOf n S t) where
         settled =
             mark-settled (f .holds) (f .lower) (f .upper) (b .lower-below) (b .upper-below) .1 (follows-one S f s);
       }
-
--- a sound table is the table of its own marks
-
-chain-marked :
-    {n : ℕ} {t : List ℕ} {a b : ℕ} → Sound n t → a < n → Yes (Marks n t) a b → (b < n) × (mark n t a b ≡ 1)
-chain-marked {a = a} s ha Chain.stop = (ha, s .diagonal a ha)
-chain-marked s ha (Chain.step {a = a} {b = b} {c = c} f p) =
-    let r = chain-marked s (f .upper-below) p in
-    (r .0, s .transitive a b c (f .lower-below) (f .upper-below) (r .0) (f .settled) (r .1))
-
-pub sound-table : {n : ℕ} {t : List ℕ} → Sound n t → TableOf n (Marks n t) t
-sound-table {n} {t} s =
-    record {
-      at = λ a b ha hb.
-          record {
-            small = s .small a b ha hb;
-            one = (λ e. marked true a b ha hb e, λ p. chain-marked s ha p .1);
-            two = (λ e. marked false a b ha hb e, back a b ha hb);
-          };
-    }
-  where
-    marked : (v : Bool) (a b : ℕ) → a < n → b < n → mark n t a b ≡ markFor v → Settled (Marks n t) v a b
-    marked v a b ha hb e =
-        follows-one (Marks n t) (record { lower = a; upper = b; holds = v })
-        (record { lower-below = ha; upper-below = hb; settled = e })
-
-    back : (a b : ℕ) → a < n → b < n → No (Marks n t) a b → mark n t a b ≡ 2
-    back a b ha hb h =
-        let c<n = h .fact .lower-below in
-        let d<n = h .fact .upper-below in
-        s .pruned a b (h .c) (h .d) ha hb c<n d<n (h .fact .settled) (chain-marked s c<n (h .from) .1)
-        (chain-marked s hb (h .to) .1)
-
-pub marks-within : {n : ℕ} {t : List ℕ} → Within n (Marks n t)
-marks-within f m = record { lower-below = m .lower-below; upper-below = m .upper-below }
 
 -- one fact more: the facts taken before may be read off the table
 pub table-with :

@@ -1,7 +1,7 @@
 -- What a book says, tied to its bytes: each item is what the bytes at its place say, places rise, the class count comes first and once,
 -- and a fault stands at the first byte of a field.
 -- Assumes nothing.
-use mathlib.Core.Path.{_≡_, refl, sym, _∙_, ap, subst}
+use mathlib.Core.Path.{_≡_, refl, sym, ap, subst}
 use mathlib.Core.Logic.{_≢_, _⊎_, inl, inr}
 use mathlib.Core.Bool.{Bool, true, false, not}
 use mathlib.Core.List.{List, [], _∷_, _++_}
@@ -12,22 +12,7 @@ use lib.Dec.{T, ltb, eqb→eq, nltb→le}
 use lib.ListN.{length, getD, take, drop, length-take, length-drop}
 use lib.Seq.{getD-take, getD-drop}
 use Rattle.promise.specs.Tell.{Kind}
-use Rattle.promise.specs.Book.{
-  Tag,
-  tagOf,
-  isUnknown,
-  isMisplaced,
-  allows,
-  chosen,
-  fieldFault,
-  Item,
-  tellsFrom,
-  answersFrom,
-  contents,
-  unlessFault,
-  itemsFrom,
-  itemsOf,
-}
+use Rattle.promise.specs.Book.{Tag, tagOf, isUnknown, isMisplaced, allows, chosen, fieldFault, Item, tellsFrom, answersFrom, contents, unlessFault, itemsFrom, itemsOf}
 
 -- the length that the field at q gives
 abbrev pub lengthAt : List ℕ → ℕ → ℕ

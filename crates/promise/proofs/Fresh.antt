@@ -21,8 +21,8 @@ use Rattle.promise.specs.Sessions.{noSession, started}
 use Rattle.promise.specs.Fresh.{freshRefusals, Freshened}
 use Rattle.promise.specs.Runs.{StandsFor}
 use Rattle.promise.specs.Buffers.{over}
-use Rattle.promise.proofs.Standing.{Stands, first-stands}
-use Rattle.promise.proofs.Replies.{reply, Outcome, outcome-unique, outcome-there}
+use Rattle.promise.proofs.Standing.{first-stands}
+use Rattle.promise.proofs.Replies.{Outcome, outcome-unique, outcome-there}
 
 -- the table that an accepted fresh leaves
 abbrev pub NewTable : ℕ → List ℕ → List ℕ → Type 0

@@ -1,7 +1,7 @@
 -- Heads and direct steps: one head for each class, one list of steps, both there on a sound table; one outcome of the call for each
 -- input.
 -- Assumes nothing.
-use mathlib.Core.Path.{_≡_, refl, sym, _∙_, ap, ap₂, subst}
+use mathlib.Core.Path.{_≡_, refl, sym, _∙_, ap, ap₂}
 use mathlib.Core.Logic.{_≢_, _⊎_, inl, inr}
 use mathlib.Core.List.{List, [], _∷_}
 use Prim.Native.Nat.{ℕ, zero, suc, _≤_, _<_}
@@ -21,19 +21,7 @@ use Rattle.promise.specs.declared.Wrote.{Wrote}
 use Rattle.promise.specs.declared.Wrote.the-variants.{Count, Refused}
 use Rattle.promise.specs.Refusals.{standing}
 use Rattle.promise.specs.Buffers.{numberOf, placeOf, over, TooShort}
-use Rattle.promise.specs.Hierarchy.{
-  Under,
-  Equal,
-  HeadOf,
-  Head,
-  Direct,
-  HeadsOf,
-  StepsOf,
-  StepBytes,
-  hierarchyRefusals,
-  HierarchyIn,
-  HierarchyWritten,
-}
+use Rattle.promise.specs.Hierarchy.{Under, Equal, HeadOf, Head, Direct, HeadsOf, StepsOf, StepBytes, hierarchyRefusals, HierarchyIn, HierarchyWritten}
 use Rattle.promise.proofs.Standing.{Stands, standing-passed, standing-there}
 use Rattle.promise.proofs.Buffers.{over-length, too-short?}
 
@@ -194,6 +182,32 @@ hierarchy-unique {s} {t} {heads} {steps} {r} {r₂} {heads′} {steps′} {heads
     go (Refused k p) (Count c) e z x y = absurd (x .0 e)
     go (Refused k p) (Refused k₂ p₂) e z x y = (ap₂ Refused e z, x .1 ∙ sym (y .1), x .2 ∙ sym (y .2))
 
+-- the lengths of both buffers stay
+pub hierarchy-lengths :
+    {s : Session} {t heads steps : List ℕ} {r : Wrote} {heads′ steps′ : List ℕ}
+    → HierarchyWritten s t heads steps r heads′ steps′ → (length heads′ ≡ length heads) × (length steps′ ≡ length steps)
+hierarchy-lengths {s} {t} {heads} {steps} {r} {heads′} {steps′} h = go r (h .number) (h .buffers)
+  where
+    n : ℕ
+    n = s .classes
+
+    room :
+        First (hierarchyRefusals s t heads steps) 0 → ¬ (TooShort (HeadsOf n t) heads ⊎ TooShort (StepBytes n t) steps)
+    room (inl z) = absurd (omega (arith, z .1))
+    room (inr (_, inl z)) = absurd (omega (arith, z .1))
+    room (inr (_, inr z)) = z .0
+
+    go :
+        (r : Wrote) → First (standing s t (hierarchyRefusals s t heads steps)) (numberOf r)
+        → HierarchyIn n t heads steps heads′ steps′ r → (length heads′ ≡ length heads) × (length steps′ ≡ length steps)
+    go (Count c) f (g, l) =
+        let q = room (standing-passed (hierarchyRefusals s t heads steps) f .1) in (
+          ap (λ (u : List ℕ). length u) (g .2) ∙ over-length (HeadsOf n t) (g .0) heads (g .1) (λ z. q (inl z)),
+          ap (λ (u : List ℕ). length u) (l .3)
+              ∙ over-length (StepBytes n t) (bytesOf (l .0)) steps (l .0, l .1, refl) (λ z. q (inr z)),
+        )
+    go (Refused k p) f x = (ap (λ (u : List ℕ). length u) (x .1), ap (λ (u : List ℕ). length u) (x .2))
+
 unfoldable pub hierarchy-there :
     (s : Session) (t heads steps : List ℕ)
     → (r : Wrote) × (heads′ : List ℕ) × (steps′ : List ℕ) × HierarchyWritten s t heads steps r heads′ steps′
@@ -233,29 +247,3 @@ hierarchy-there s t heads steps = go first
         (k : ℕ) × First (standing s t (hierarchyRefusals s t heads steps)) k
         → (r : Wrote) × (heads′ : List ℕ) × (steps′ : List ℕ) × HierarchyWritten s t heads steps r heads′ steps′
     go (k, f) = pick k f (ℕ-discrete k 0)
-
--- the lengths of both buffers stay
-pub hierarchy-lengths :
-    {s : Session} {t heads steps : List ℕ} {r : Wrote} {heads′ steps′ : List ℕ}
-    → HierarchyWritten s t heads steps r heads′ steps′ → (length heads′ ≡ length heads) × (length steps′ ≡ length steps)
-hierarchy-lengths {s} {t} {heads} {steps} {r} {heads′} {steps′} h = go r (h .number) (h .buffers)
-  where
-    n : ℕ
-    n = s .classes
-
-    room :
-        First (hierarchyRefusals s t heads steps) 0 → ¬ (TooShort (HeadsOf n t) heads ⊎ TooShort (StepBytes n t) steps)
-    room (inl z) = absurd (omega (arith, z .1))
-    room (inr (_, inl z)) = absurd (omega (arith, z .1))
-    room (inr (_, inr z)) = z .0
-
-    go :
-        (r : Wrote) → First (standing s t (hierarchyRefusals s t heads steps)) (numberOf r)
-        → HierarchyIn n t heads steps heads′ steps′ r → (length heads′ ≡ length heads) × (length steps′ ≡ length steps)
-    go (Count c) f (g, l) =
-        let q = room (standing-passed (hierarchyRefusals s t heads steps) f .1) in (
-          ap (λ (u : List ℕ). length u) (g .2) ∙ over-length (HeadsOf n t) (g .0) heads (g .1) (λ z. q (inl z)),
-          ap (λ (u : List ℕ). length u) (l .3)
-              ∙ over-length (StepBytes n t) (bytesOf (l .0)) steps (l .0, l .1, refl) (λ z. q (inr z)),
-        )
-    go (Refused k p) f x = (ap (λ (u : List ℕ). length u) (x .1), ap (λ (u : List ℕ). length u) (x .2))

@@ -12,3 +12,6 @@ pub mod Read
 pub mod Write
 pub mod Mantel
 pub mod Triangles
+pub mod Table
+pub mod Worked
+pub mod WrongAnswers

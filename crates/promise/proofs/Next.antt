@@ -1,10 +1,10 @@
 -- Next: one answer for each input; asking and answering the pair asked ends.
 -- Assumes nothing.
 use mathlib.Core.Path.{_≡_, refl, sym, _∙_, ap, ap₂, subst}
-use mathlib.Core.Logic.{_↔_, _≢_, _⊎_, inl, inr}
+use mathlib.Core.Logic.{_↔_, _⊎_, inl, inr}
 use mathlib.Core.Bool.{Bool}
 use mathlib.Core.List.{List, [], _∷_, List·Memᴰ, List·Memᴰ·head, List·Memᴰ·not-nil, List·Memᴰ·cases-cons}
-use Prim.Native.Nat.{ℕ, zero, suc, _+_, _≤_, _<_}
+use Prim.Native.Nat.{ℕ, _+_, _≤_, _<_}
 use native.Mathlib.Decide.{ℕ-discrete, decLt}
 use native.Mathlib.Omega.{arith}
 use Rattle.order.specs.Facts.{Fact}
@@ -23,7 +23,7 @@ use Rattle.promise.specs.declared.Question.the-variants.{Ask, Done, Refu
 use Rattle.promise.specs.Refusals.{standing}
 use Rattle.promise.specs.Tell.{Kind, adds, tellRefusals, Answered}
 use Rattle.promise.specs.Next.{numberOf, placeOf, FirstOpen, NoneOpen, Says, Asked, Rounds}
-use Rattle.promise.proofs.Standing.{Stands, standing-passed, stands-first, first-stands, standing-there}
+use Rattle.promise.proofs.Standing.{Stands, standing-passed, stands-first, standing-there}
 use Rattle.promise.proofs.Tell.{tell-opens, tell-keeps}
 
 in-order : (a b c d : ℕ) → Before (a, b) (c, d) ⊎ Before (c, d) (a, b) ⊎ ((a ≡ c) × (b ≡ d))

@@ -1,25 +1,24 @@
 -- Demand 3, over any run of tells and answers, refused ones among them; and the tally as a number read off the history.
 -- Assumes nothing.
-use mathlib.Core.Path.{_≡_, refl, sym, _∙_, ap, subst}
+use mathlib.Core.Path.{_≡_, refl, _∙_, ap, subst}
 use mathlib.Core.Logic.{_↔_, _≢_, inl, inr}
 use mathlib.Core.List.{List, [], _∷_, _++_, List·Memᴰ·not-nil}
-use Prim.Native.Nat.{ℕ, zero, suc, _+_, _≤_, _<_}
+use Prim.Native.Nat.{ℕ, zero, suc, _+_, _*_, _≤_, _<_}
 use native.Mathlib.Decide.{ℕ-discrete}
 use native.Mathlib.Omega.{arith}
+use lib.ListN.{length}
 use Rattle.order.specs.Facts.{Fact, Facts, Listed, _with_, _and_, _⊆_, Below}
 use Rattle.order.specs.Tables.{mark, TableOf, SameRest, opens}
 use Rattle.order.specs.Orders.{Impossible, Exact}
-use Rattle.order.specs.Refusals.{First}
 use Rattle.order.proofs.Sets.{entails-subset, with-listed, listed-with}
 use Rattle.order.proofs.Tables.{table-of-equals, settled-stays}
 use Rattle.order.proofs.Bytes.{rest-refl, rest-trans}
 use Rattle.order.proofs.Exactness.{exact}
 use Rattle.promise.specs.declared.Session.{Session}
 use Rattle.promise.specs.declared.Reply.{Reply}
-use Rattle.promise.specs.Refusals.{standing}
-use Rattle.promise.specs.Tell.{Kind, adds, Took}
+use Rattle.promise.specs.Tell.{Kind, Took}
 use Rattle.promise.specs.Runs.{StandsFor, Made, Run, FromFresh, unlessRefused, acceptedFacts, testsIn}
-use Rattle.promise.proofs.Fresh.{fresh-stands}
+use Rattle.promise.proofs.Fresh.{fresh-stands, fresh-there, fresh-accepted}
 use Rattle.promise.proofs.Tell.{tell-there, tell-opens, tell-stands, tell-refused}
 
 -- the same facts, said otherwise
@@ -170,4 +169,24 @@ run-there (c ∷ calls) s t =
       later .2,
       Run.call (q .2) refl (later .3),
       ap (λ (l : List Call). c ∷ l) (later .4),
+    )
+
+-- from fresh, any list of calls for any class count from 1 to 128 on any table that is long enough
+pub fresh-run-there :
+    (calls : List Call) (n : ℕ) (t : List ℕ) → 1 ≤ n → n ≤ 128 → n * n ≤ length t
+    → (made : List Made) × (s′ : Session) × (t′ : List ℕ) × FromFresh n t made s′ t′ × (callsOf made ≡ calls)
+fresh-run-there calls n t some few room =
+    let q = fresh-there n t in
+    let x = run-there calls (q .0 .session) (q .1) in (
+      x .0,
+      x .1,
+      x .2,
+      record {
+        reply = q .0;
+        table = q .1;
+        began = q .2;
+        accepted = fresh-accepted t some few room (q .2 .number);
+        run = x .3;
+      },
+      x .4,
     )

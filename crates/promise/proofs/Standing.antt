@@ -1,6 +1,6 @@
 -- Refusals 1 to 4: what holds where none of them is due, and that there is a first one or none.
 -- Assumes nothing.
-use mathlib.Core.Path.{_≡_, refl}
+use mathlib.Core.Path.{refl}
 use mathlib.Core.Logic.{_⊎_, inl, inr, ⊎-elim}
 use mathlib.Core.List.{List, []}
 use Prim.Native.Nat.{ℕ, _+_, _*_, _-_, _≤_, _<_}
@@ -8,11 +8,10 @@ use native.Mathlib.Decide.{ℕ-discrete, decLt, decLe}
 use native.Mathlib.Nat.{mul-le-mul-right}
 use native.Mathlib.Omega.{arith}
 use lib.ListN.{length}
-use Rattle.order.specs.Facts.{Fact, Below}
 use Rattle.order.specs.Tables.{Sound, opens}
 use Rattle.order.specs.Refusals.{Condition, First}
 use Rattle.order.proofs.Decide.{stable, either, negated}
-use Rattle.order.proofs.Refusals.{Numbered, stage}
+use Rattle.order.proofs.Refusals.{stage}
 use Rattle.order.proofs.Sound.{sound?}
 use Rattle.promise.specs.declared.Session.{Session}
 use Rattle.promise.specs.Refusals.{standing}

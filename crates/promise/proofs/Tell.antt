@@ -1,6 +1,6 @@
 -- Tell and answer: one outcome for each input, and what an accepted or refused fact does.
 -- Assumes nothing.
-use mathlib.Core.Path.{_≡_, refl, sym, _∙_, ap, subst}
+use mathlib.Core.Path.{_≡_, refl, sym, _∙_, ap}
 use mathlib.Core.Logic.{_↔_, _≢_, _⊎_, inl, inr}
 use mathlib.Core.List.{List, []}
 use Prim.Native.Nat.{ℕ, zero, suc, _+_, _*_, _≤_}
@@ -8,8 +8,8 @@ use native.Mathlib.Decide.{ℕ-discrete, decLe}
 use native.Mathlib.Nat.{add-zero}
 use native.Mathlib.Omega.{arith}
 use lib.ListN.{length}
-use Rattle.order.specs.Facts.{Fact, Facts, _with_, Below, Within}
-use Rattle.order.specs.Tables.{mark, TableOf, Marks, Contradicts, SameRest, SameMarks, isOpen, opens, markAgainst, markFor}
+use Rattle.order.specs.Facts.{Fact, Facts, _with_, Below}
+use Rattle.order.specs.Tables.{mark, TableOf, Marks, Contradicts, SameRest, isOpen, opens, markAgainst}
 use Rattle.order.specs.Orders.{Impossible}
 use Rattle.order.specs.Refusals.{First}
 use Rattle.order.proofs.Decide.{either}
@@ -18,7 +18,7 @@ use Rattle.order.proofs.Sets.{within-with}
 use Rattle.order.proofs.Tables.{table-unique, table-sound, table-with, table-settled, sound-table, marks-within, mark-for-settled, for-not-against}
 use Rattle.order.proofs.Exactness.{contradicts-exact}
 use Rattle.order.proofs.Bytes.{same-list, rest-refl, rest-sym, rest-trans, front-mark, front-rest}
-use Rattle.order.proofs.Counts.{opens-with, open-settled}
+use Rattle.order.proofs.Counts.{opens-with}
 use Rattle.order.proofs.Taking.{taken-in, taken-table, newMark, length-laid}
 use Rattle.promise.specs.declared.Session.{Session}
 use Rattle.promise.specs.declared.Reply.{Reply}
@@ -28,7 +28,7 @@ use Rattle.promise.specs.Tell.{Kind, adds, tellRefusals, Took}
 use Rattle.promise.specs.Runs.{StandsFor}
 use Rattle.promise.specs.Buffers.{over}
 use Rattle.promise.proofs.Standing.{Stands, standing-passed, stands-first, first-stands, standing-there, below-of}
-use Rattle.promise.proofs.Replies.{reply, reply-same, Outcome, outcome-unique, outcome-there}
+use Rattle.promise.proofs.Replies.{reply, Outcome, outcome-unique, outcome-there}
 
 -- the session and the table that an accepted fact leaves
 abbrev pub sessionAfter : Kind → Session → List ℕ → Fact → Session

@@ -4,24 +4,10 @@
 use mathlib.Core.Path.{_≡_, refl, sym, _∙_, ap, ap₂, subst}
 use mathlib.Core.Logic.{_↔_, _≢_, _⊎_, inl, inr}
 use mathlib.Core.Bool.{Bool, true, false, not}
-use mathlib.Core.List.{
-  List,
-  [],
-  _∷_,
-  _++_,
-  append-nil,
-  List·Memᴰ,
-  List·Memᴰ·head,
-  List·Memᴰ·tail,
-  List·Memᴰ·not-nil,
-  List·Memᴰ·cases-cons,
-  List·Memᴰ·append-cases,
-  Memᴰ·append-left,
-  Memᴰ·append-right,
-}
+use mathlib.Core.List.{List, [], _∷_, _++_, append-nil, List·Memᴰ, List·Memᴰ·head, List·Memᴰ·tail, List·Memᴰ·not-nil, List·Memᴰ·cases-cons, List·Memᴰ·append-cases, Memᴰ·append-left, Memᴰ·append-right}
 use Prim.Native.Nat.{ℕ, zero, suc, _+_, _*_, _/_, _%_, _≤_, _<_}
-use native.Mathlib.Nat.{div-add-mod', mul-mod-right, add-zero, suc-mul, mul-le-mul, mod-lt, div-lt-iff-lt-mul}
-use native.Mathlib.Decide.{ℕ-discrete, decLt}
+use native.Mathlib.Nat.{div-add-mod', mul-mod-right, suc-mul, mul-le-mul, mod-lt, div-lt-iff-lt-mul}
+use native.Mathlib.Decide.{ℕ-discrete}
 use native.Mathlib.Omega.{arith}
 use lib.Dec.{T, ltb, ltb→lt, not-T}
 use lib.ListN.{length, take, drop, length-append}
@@ -29,12 +15,12 @@ use lib.Seq.{take-at, drop-at}
 use Rattle.order.specs.Facts.{Fact, Facts, under, notUnder, _with_, _and_, _⊆_, Listed, Within, Chain}
 use Rattle.order.specs.Tables.{mark, Sound, Marks, SameMarks, TableOf, markFor}
 use Rattle.order.specs.Orders.{Impossible}
-use Rattle.order.specs.Pairs.{Pair, Lists, bytesOf}
+use Rattle.order.specs.Pairs.{Pair, bytesOf}
 use Rattle.order.specs.Refusals.{First}
 use Rattle.order.proofs.Decide.{both, negated}
 use Rattle.order.proofs.Refusals.{stage}
 use Rattle.order.proofs.Sets.{Settled, Follows as Entailed, entails-subset, follows-one, with-listed, listed-with}
-use Rattle.order.proofs.Tables.{Mark, which, verdict-of, marks-within, sound-table, table-unique, table-of-equals}
+use Rattle.order.proofs.Tables.{which, verdict-of, marks-within, sound-table, table-unique, table-of-equals}
 use Rattle.order.proofs.Exactness.{table-possible}
 use Rattle.order.proofs.Pairs.{lists-unique, lists-map, pairsOf, pairs-listed, length-bytes}
 use Rattle.order.proofs.Counting.{pairs-two}
@@ -45,14 +31,13 @@ use Rattle.promise.specs.declared.Wrote.{Wrote}
 use Rattle.promise.specs.declared.Wrote.the-variants.{Count}
 use Rattle.promise.specs.Sessions.{noSession, started}
 use Rattle.promise.specs.Refusals.{standing}
-use Rattle.promise.specs.Fresh.{Freshened}
 use Rattle.promise.specs.Tell.{Kind, Told}
 use Rattle.promise.specs.Runs.{StandsFor, acceptedFacts}
-use Rattle.promise.specs.Buffers.{over, TooShort}
+use Rattle.promise.specs.Buffers.{TooShort}
 use Rattle.promise.specs.Book.{Tag, tagOf, isUnknown, isMisplaced, allows, chosen, fieldFault, Item, tellsFrom, contents, itemsFrom, itemsOf}
 use Rattle.promise.specs.Read.{isYes, factOf, Passes, Follows, BookRead}
 use Rattle.promise.specs.Write.{field, Marked, BookOf, writeRefusals, BookWritten}
-use Rattle.promise.proofs.Standing.{Stands, standing-passed, standing-there}
+use Rattle.promise.proofs.Standing.{standing-passed, standing-there}
 use Rattle.promise.proofs.Replies.{reply}
 use Rattle.promise.proofs.Fresh.{fresh-accepted, fresh-stands}
 use Rattle.promise.proofs.Tell.{tell-stands, tell-refused}

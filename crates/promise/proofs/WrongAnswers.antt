@@ -1,0 +1,235 @@
+-- Wrong programs do not meet what the calls owe: one that refuses everything, one with a constant reply, one that does nothing, a tell
+-- that draws the consequences of the first fact and merely stores later ones, a tally always 0 or invented.
+-- Assumes nothing.
+use mathlib.Core.Path.{_≡_, refl, sym, _∙_, ap, ap₂, subst}
+use mathlib.Core.Logic.{_≢_, _⊎_, ⊎-elim}
+use mathlib.Core.List.{List, [], _∷_}
+use Prim.Native.Nat.{ℕ, _+_, _*_}
+use native.Mathlib.Omega.{arith}
+use lib.ListN.{getD, set}
+use Rattle.order.specs.Facts.{Fact, under}
+use Rattle.order.specs.Tables.{mark, Fresh, markFor}
+use Rattle.promise.specs.declared.Session.{Session}
+use Rattle.promise.specs.declared.Reply.{Reply}
+use Rattle.promise.specs.declared.Question.{Question}
+use Rattle.promise.specs.declared.Question.the-variants.{Ask, Done}
+use Rattle.promise.specs.declared.Wrote.{Wrote}
+use Rattle.promise.specs.declared.Wrote.the-variants.{Count, Refused}
+use Rattle.promise.specs.Sessions.{noSession, started}
+use Rattle.promise.specs.Fresh.{Freshened}
+use Rattle.promise.specs.Tell.{Kind, Took}
+use Rattle.promise.specs.Next.{numberOf, Asked}
+use Rattle.promise.specs.Buffers.{numberOf as countNumber}
+use Rattle.promise.specs.Hierarchy.{HierarchyWritten}
+use Rattle.promise.specs.Ladder.{LadderWritten}
+use Rattle.promise.specs.Read.{BookRead}
+use Rattle.promise.specs.Write.{BookWritten}
+use Rattle.promise.proofs.Fresh.{fresh-unique}
+use Rattle.promise.proofs.Tell.{tell-unique}
+use Rattle.promise.proofs.Next.{next-unique}
+use Rattle.promise.proofs.Hierarchy.{hierarchy-unique}
+use Rattle.promise.proofs.Ladder.{ladder-written-unique}
+use Rattle.promise.proofs.Read.{read-unique}
+use Rattle.promise.proofs.Write.{write-unique}
+use Rattle.promise.proofs.Table.{p2, p3, p4, p7, p8, p11, p12, three, four, accepted, refused, nines}
+use Rattle.promise.proofs.Worked.{met-at}
+
+-- A call: what goes in, what comes out, what is owed, and that this fixes the outcome.
+pub record Call : Type 1 where
+  pub Input : Type 0
+  pub Output : Type 0
+  pub Owes : Input → Output → Type 0
+  pub only : (i : Input) (o o₂ : Output) → Owes i o → Owes i o₂ → o ≡ o₂
+
+-- a program that meets what the call owes on every input
+pub record Program (c : Call) : Type 0 where
+  pub run : c .Input → c .Output
+  pub meets : (i : c .Input) → c .Owes i (run i)
+
+-- where a property fails at one outcome that is owed, no program has it everywhere
+never :
+    (c : Call) (Q : c .Input → c .Output → Type 0) (i : c .Input) (o : c .Output) → c .Owes i o → ¬ Q i o
+    → (p : Program c) → ¬ ((i : c .Input) → Q i (p .run i))
+never c Q i o owed fails p all =
+    fails (subst (Q i) (c .only i (p .run i) o (p .meets i) owed) (all i))
+
+-- No program refuses everything, gives a constant answer, or is idle.
+pub record Rejected (c : Call) (number : c .Output → ℕ) {A : Type 0} (answer : c .Output → A) (Idle : c .Input → c .Output → Type 0)
+    : Type 0 where
+  pub refuses-all : (p : Program c) → ¬ ((i : c .Input) → number (p .run i) ≢ 0)
+  pub constant : (p : Program c) (a : A) → ¬ ((i : c .Input) → answer (p .run i) ≡ a)
+  pub idle : (p : Program c) → ¬ ((i : c .Input) → Idle i (p .run i))
+
+-- one outcome that is accepted and not idle, and another with another answer, show it
+rejected :
+    (c : Call) (number : c .Output → ℕ) {A : Type 0} (answer : c .Output → A) (Idle : c .Input → c .Output → Type 0)
+    (i j : c .Input) (o o₂ : c .Output) → c .Owes i o → number o ≡ 0 → ¬ Idle i o → c .Owes j o₂ → answer o ≢ answer o₂
+    → Rejected c number answer Idle
+rejected c number {A} answer Idle i j o o₂ owed fine busy owed₂ differ =
+    record {
+      refuses-all = never c (λ _ x. number x ≢ 0) i o owed (λ z. z fine);
+      constant = λ p a all.
+          differ
+          (sym (ap answer (c .only i (p .run i) o (p .meets i) owed))
+          ∙ all i
+          ∙ sym (all j)
+          ∙ ap answer (c .only j (p .run j) o₂ (p .meets j) owed₂));
+      idle = never c Idle i o owed busy;
+    }
+
+pub pair-same : {A B : Type 0} {x y : A × B} → (x .0 ≡ y .0) × (x .1 ≡ y .1) → x ≡ y
+pair-same h = ap₂ (λ a b. (a, b)) (h .0) (h .1)
+
+-- lists whose first bytes differ
+other-byte : {x y : ℕ} {l m : List ℕ} → x ≢ y → x ∷ l ≢ y ∷ m
+other-byte ne e = ne (ap (λ (l : List ℕ). getD l 0 0) e)
+
+-- fresh
+
+abbrev pub freshCall : Call
+freshCall =
+    record {
+      Input = ℕ × List ℕ;
+      Output = Reply × List ℕ;
+      Owes = λ i o. Freshened (i .0) (i .1) (o .0) (o .1);
+      only = λ i o o₂ h h₂. pair-same (fresh-unique h h₂);
+    }
+
+pub fresh-rejects : Rejected freshCall (λ o. o .0 .number) (λ o. o .0) (λ i o. o .1 ≡ i .1)
+fresh-rejects =
+    rejected freshCall (λ o. o .0 .number) (λ o. o .0) (λ i o. o .1 ≡ i .1) (1, nines 2) (0, nines 1)
+    (accepted (started 1), 1 ∷ 9 ∷ []) (refused 1 0 noSession, nines 1) (met-at 0) refl (other-byte (λ z. omega arith))
+    (met-at 29) (λ e. omega (arith, ap (λ (r : Reply). r .number) e))
+
+-- tell and answer
+
+abbrev pub tellCall : Kind → Call
+tellCall kind =
+    record {
+      Input = Session × List ℕ × Fact;
+      Output = Reply × List ℕ;
+      Owes = λ i o. Took kind (i .0) (i .1) (i .2) (o .0) (o .1);
+      only = λ i o o₂ h h₂. pair-same (tell-unique h h₂);
+    }
+
+-- at P4 and P5
+pub tell-rejects : Rejected (tellCall Kind.tell) (λ o. o .0 .number) (λ o. o .0) (λ i o. o .1 ≡ i .1)
+tell-rejects =
+    rejected (tellCall Kind.tell) (λ o. o .0 .number) (λ o. o .0) (λ i o. o .1 ≡ i .1) (three 0, p3, under 0 1)
+    (three 0, p4, under 1 2) (accepted (three 0), p4) (refused 6 0 (three 0), p4) (met-at 7) refl
+    (λ e. omega (arith, ap (λ (l : List ℕ). getD l 1 0) e)) (met-at 9)
+    (λ e. omega (arith, ap (λ (r : Reply). r .number) e))
+
+-- Storing a fact on a table that is not fresh, and nothing more.
+abbrev pub MerelyStores : Session × List ℕ × Fact → Reply × List ℕ → Type 0
+MerelyStores i o =
+    ¬ Fresh (i .0 .classes) (i .1) → o .0 .number ≡ 0
+    → o .1 ≡ set (i .1) (i .2 .lower * i .0 .classes + i .2 .upper) (markFor (i .2 .holds))
+
+-- at P4: the mark of (1, 2) becomes no
+pub tell-not-stores :
+    (p : Program (tellCall Kind.tell)) → ¬ ((i : Session × List ℕ × Fact) → MerelyStores i (p .run i))
+unfolding mark
+tell-not-stores =
+    never (tellCall Kind.tell) MerelyStores (three 0, p3, under 0 1) (accepted (three 0), p4) (met-at 7) (λ stores.
+    omega (arith, ap (λ (l : List ℕ). getD l 5 0) (stores not-fresh refl)))
+  where
+    not-fresh : ¬ Fresh 3 p3
+    not-fresh h = omega (arith, h .elsewhere 0 2 (omega arith) (omega arith) (λ z. omega arith))
+
+-- an answer on an open pair, and one on a settled pair: the tally is no constant, 0 or any other
+pub answer-rejects : Rejected (tellCall Kind.answer) (λ o. o .0 .number) (λ o. o .0 .session .tests) (λ i o. o .1 ≡ i .1)
+answer-rejects =
+    rejected (tellCall Kind.answer) (λ o. o .0 .number) (λ o. o .0 .session .tests) (λ i o. o .1 ≡ i .1)
+    (three 0, p7, under 2 1) (three 0, p2, under 1 1) (accepted (three 1), p8) (accepted (three 0), p2) (met-at 27) refl
+    (λ e. omega (arith, ap (λ (l : List ℕ). getD l 3 0) e)) (met-at 20) (λ e. omega arith)
+
+-- next: one that always says done is idle
+
+abbrev pub nextCall : Call
+nextCall =
+    record {
+      Input = Session × List ℕ;
+      Output = Question;
+      Owes = λ i q. Asked (i .0) (i .1) q;
+      only = λ i q q₂ h h₂. next-unique h h₂;
+    }
+
+pub next-rejects : Rejected nextCall numberOf (λ q. q) (λ i q. q ≡ Done)
+next-rejects =
+    rejected nextCall numberOf (λ q. q) (λ i q. q ≡ Done) (three 0, p2) (three 0, p8) (Ask 0 1) Done (met-at 4) refl asks
+    (met-at 17) asks
+  where
+    asks : Ask 0 1 ≢ Done
+    asks e = let z : _≡_ {A = ℕ} 0 1 = cc in omega arith
+
+-- hierarchy
+
+abbrev pub hierarchyCall : Call
+hierarchyCall =
+    record {
+      Input = Session × List ℕ × List ℕ × List ℕ;
+      Output = Wrote × (List ℕ × List ℕ);
+      Owes = λ i o. HierarchyWritten (i .0) (i .1) (i .2) (i .3) (o .0) (o .1 .0) (o .1 .1);
+      only = λ i o o₂ h h₂. let q = hierarchy-unique h h₂ in pair-same (q .0, pair-same (q .1, q .2));
+    }
+
+pub hierarchy-rejects :
+    Rejected hierarchyCall (λ o. countNumber (o .0)) (λ o. o .0) (λ i o. (o .1 .0 ≡ i .2) ⊎ (o .1 .1 ≡ i .3))
+hierarchy-rejects =
+    rejected hierarchyCall (λ o. countNumber (o .0)) (λ o. o .0) (λ i o. (o .1 .0 ≡ i .2) ⊎ (o .1 .1 ≡ i .3))
+    (three 0, p8, nines 4, nines 3) (four, p11, nines 4, nines 7)
+    (Count 1, (0 ∷ 1 ∷ 1 ∷ 9 ∷ [], 0 ∷ 1 ∷ 9 ∷ [])) (Refused 8 0, (nines 4, nines 7)) (met-at 18) refl
+    (⊎-elim (other-byte (λ z. omega arith)) (other-byte (λ z. omega arith))) (met-at 39)
+    (λ e. omega (arith, ap countNumber e))
+
+-- ladder
+
+abbrev pub ladderCall : Call
+ladderCall =
+    record {
+      Input = Session × List ℕ × ℕ × ℕ × List ℕ;
+      Output = Wrote × List ℕ;
+      Owes = λ i o. LadderWritten (i .0) (i .1) (i .2) (i .3) (i .4) (o .0) (o .1);
+      only = λ i o o₂ h h₂. pair-same (ladder-written-unique (i .0) (i .1) (i .2) (i .3) (i .4) h h₂);
+    }
+
+pub ladder-rejects : Rejected ladderCall (λ o. countNumber (o .0)) (λ o. o .0) (λ i o. o .1 ≡ i .4)
+ladder-rejects =
+    rejected ladderCall (λ o. countNumber (o .0)) (λ o. o .0) (λ i o. o .1 ≡ i .4) (four, p11, 0, 3, nines 3)
+    (four, p11, 1, 2, nines 3) (Count 3, 0 ∷ 1 ∷ 3 ∷ []) (Refused 9 0, nines 3) (met-at 23) refl
+    (other-byte (λ z. omega arith)) (met-at 24) (λ e. omega (arith, ap countNumber e))
+
+-- read
+
+abbrev pub readCall : Call
+readCall =
+    record {
+      Input = List ℕ × List ℕ;
+      Output = Reply × List ℕ;
+      Owes = λ i o. BookRead (i .0) (i .1) (o .0) (o .1);
+      only = λ i o o₂ h h₂. pair-same (read-unique h h₂);
+    }
+
+pub read-rejects : Rejected readCall (λ o. o .0 .number) (λ o. o .0) (λ i o. o .1 ≡ i .1)
+read-rejects =
+    rejected readCall (λ o. o .0 .number) (λ o. o .0) (λ i o. o .1 ≡ i .1) (p12, nines 9) ([], nines 9)
+    (accepted (three 0), p8) (refused 12 0 noSession, nines 9) (met-at 26) refl (other-byte (λ z. omega arith))
+    (met-at 52) (λ e. omega (arith, ap (λ (r : Reply). r .number) e))
+
+-- write
+
+abbrev pub writeCall : Call
+writeCall =
+    record {
+      Input = Session × List ℕ × List ℕ;
+      Output = Wrote × List ℕ;
+      Owes = λ i o. BookWritten (i .0) (i .1) (i .2) (o .0) (o .1);
+      only = λ i o o₂ h h₂. pair-same (write-unique (i .0) (i .1) (i .2) h h₂);
+    }
+
+pub write-rejects : Rejected writeCall (λ o. countNumber (o .0)) (λ o. o .0) (λ i o. o .1 ≡ i .2)
+write-rejects =
+    rejected writeCall (λ o. countNumber (o .0)) (λ o. o .0) (λ i o. o .1 ≡ i .2) (three 0, p8, nines 22)
+    (three 0, p8, nines 21) (Count 22, p12) (Refused 8 0, nines 21) (met-at 25) refl (other-byte (λ z. omega arith))
+    (met-at 46) (λ e. omega (arith, ap countNumber e))
