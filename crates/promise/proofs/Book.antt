@@ -126,6 +126,21 @@ module _ (book : List ℕ) (q : ℕ) (is-field : FieldAt book q) (whole : q + 3 
   abbrev after : ℕ
   after = q + 3 + lengthAt book q
 
+  said-at :
+      {p a b v : ℕ} {kind : Kind} → a ≡ getD book p 0 → b ≡ getD book (p + 1) 0 → q + 3 ≤ p → p + 2 ≤ after
+      → TakenAs (tagOf (getD book q 0)) book p kind v → SaidAt book p kind a b v
+  said-at lower upper from to taken =
+      record {
+        lower = lower;
+        upper = upper;
+        field = q;
+        is-field = is-field;
+        from = from;
+        to = to;
+        whole = whole;
+        taken = taken;
+      }
+
   tells-said :
       (v p : ℕ) (bytes : List ℕ) → ((p : ℕ) → TakenAs (tagOf (getD book q 0)) book p Kind.tell v) → q + 3 ≤ p
       → p + length bytes ≤ after → StandIn book p bytes → Said book p after (tellsFrom v p bytes)
@@ -138,16 +153,7 @@ module _ (book : List ℕ) (q : ℕ) (is-field : FieldAt book q) (whole : q + 3 
       let e : p + 1 + 1 ≡ p + 2 = omega arith in (
         omega arith,
         omega arith,
-        record {
-          lower = x .0;
-          upper = y .0;
-          field = q;
-          is-field = is-field;
-          from = from;
-          to = omega arith;
-          whole = whole;
-          taken = taken p;
-        },
+        said-at (x .0) (y .0) from (omega arith) (taken p),
         said-from book (suc p) after (p + 2) (tellsFrom v (p + 2) rest) (omega arith)
             (tells-said v (p + 2) rest taken (omega arith) (omega arith) (rw e at (y .1))),
       )
@@ -167,16 +173,7 @@ module _ (book : List ℕ) (q : ℕ) (is-field : FieldAt book q) (whole : q + 3 
       let e₃ : p + 1 + 1 + 1 ≡ p + 3 = omega arith in (
         omega arith,
         omega arith,
-        record {
-          lower = x .0;
-          upper = y .0;
-          field = q;
-          is-field = is-field;
-          from = from;
-          to = omega arith;
-          whole = whole;
-          taken = rw tag (refl, rw e at (z .0));
-        },
+        said-at (x .0) (y .0) from (omega arith) (rw tag (refl, rw e at (z .0))),
         said-from book (suc p) after (p + 3) (answersFrom (p + 3) rest) (omega arith)
             (answers-said (p + 3) rest tag (omega arith) (omega arith) (rw e₃ at (z .1))),
       )

@@ -1,19 +1,19 @@
 -- Fresh: one outcome for each input, and an accepted one stands for no facts.
 -- Assumes nothing.
 use mathlib.Core.Path.{_≡_, refl, sym, _∙_}
-use mathlib.Core.Logic.{_↔_, inl, inr}
+use mathlib.Core.Logic.{inl, inr}
 use mathlib.Core.List.{List, [], List·Memᴰ·not-nil}
 use Prim.Native.Nat.{ℕ, _*_, _≤_, _<_}
 use native.Mathlib.Decide.{ℕ-discrete, decLt, decLe}
 use native.Mathlib.Omega.{arith}
 use lib.ListN.{length}
 use Rattle.order.specs.Facts.{Listed}
-use Rattle.order.specs.Tables.{mark, TableOf, SameMarks, Fresh, SameRest}
+use Rattle.order.specs.Tables.{mark, TableOf, SameMarks, Fresh}
 use Rattle.order.specs.Refusals.{First}
 use Rattle.order.proofs.Decide.{stable, either}
 use Rattle.order.proofs.Refusals.{stage}
 use Rattle.order.proofs.Tables.{fresh-table, table-sound}
-use Rattle.order.proofs.Bytes.{same-list, rest-sym, rest-trans, front-mark, front-rest}
+use Rattle.order.proofs.Bytes.{front-mark, front-rest}
 use Rattle.order.proofs.Counts.{opens-diagonal}
 use Rattle.order.proofs.Taking.{fresh-list, fresh-made, fresh-mark, length-laid}
 use Rattle.promise.specs.declared.Reply.{Reply}
@@ -22,33 +22,7 @@ use Rattle.promise.specs.Fresh.{freshRefusals, Freshened}
 use Rattle.promise.specs.Runs.{StandsFor}
 use Rattle.promise.specs.Buffers.{over}
 use Rattle.promise.proofs.Standing.{first-stands}
-use Rattle.promise.proofs.Replies.{Outcome, outcome-unique, outcome-there}
-
--- the table that an accepted fresh leaves
-abbrev pub NewTable : ℕ → List ℕ → List ℕ → Type 0
-NewTable n t u = Fresh n u × SameRest n t u
-
-pub fresh-outcome :
-    {n : ℕ} {t : List ℕ} {r : Reply} {t′ : List ℕ}
-    → Freshened n t r t′ ↔ Outcome (freshRefusals n t) noSession (started n) (NewTable n t) t r t′
-fresh-outcome = (
-  λ h.
-      record {
-        number = h .number;
-        place = h .place;
-        refused = h .refused;
-        accepted = λ e. (h .session e, (h .table e, h .rest e));
-      },
-  λ h.
-      record {
-        number = h .number;
-        place = h .place;
-        refused = h .refused;
-        session = λ e. h .accepted e .0;
-        table = λ e. h .accepted e .1 .0;
-        rest = λ e. h .accepted e .1 .1;
-      },
-)
+use Rattle.promise.proofs.Replies.{replies-unique, replies-there}
 
 fresh-same : {n : ℕ} {t t′ : List ℕ} → Fresh n t → Fresh n t′ → SameMarks n t t′
 fresh-same {n} {t} {t′} h h′ = record { at = λ a b ha hb. go a b ha hb (ℕ-discrete a b) }
@@ -60,10 +34,7 @@ fresh-same {n} {t} {t′} h h′ = record { at = λ a b ha hb. go a b ha hb (ℕ
 pub fresh-unique :
     {n : ℕ} {t : List ℕ} {r r₂ : Reply} {t′ t₂ : List ℕ} → Freshened n t r t′ → Freshened n t r₂ t₂
     → (r ≡ r₂) × (t′ ≡ t₂)
-fresh-unique {n} {t} h h₂ =
-    outcome-unique (freshRefusals n t) noSession (started n) (NewTable n t) t
-    (λ u v a b. same-list (fresh-same (a .0) (b .0)) (rest-trans (rest-sym (a .1)) (b .1)))
-    (fresh-outcome .0 h) (fresh-outcome .0 h₂)
+fresh-unique h h₂ = replies-unique (λ u v. fresh-same) (h .replies) (h₂ .replies)
 
 -- what an accepted class count is
 pub fresh-passed : (n : ℕ) (t : List ℕ) → First (freshRefusals n t) 0 → (1 ≤ n) × (n ≤ 128) × (n * n ≤ length t)
@@ -83,7 +54,7 @@ fresh-accepted t some few room (inr (_, inl (e, _))) = absurd (omega arith)
 fresh-accepted t some few room (inr (_, inr (_, e))) = e
 
 pub fresh-numbers : {n : ℕ} {t : List ℕ} {r : Reply} {t′ : List ℕ} → Freshened n t r t′ → r .number ≤ 2
-fresh-numbers {n} {t} {r} h = go (h .number)
+fresh-numbers {n} {t} {r} h = go (h .replies .number)
   where
     go : First (freshRefusals n t) (r .number) → r .number ≤ 2
     go (inl (_, e)) = omega arith
@@ -93,29 +64,29 @@ fresh-numbers {n} {t} {r} h = go (h .number)
 unfoldable pub fresh-there : (n : ℕ) (t : List ℕ) → (r : Reply) × (t′ : List ℕ) × Freshened n t r t′
 fresh-there n t =
     let q =
-    outcome-there (freshRefusals n t) noSession (started n) (NewTable n t) t
+    replies-there (freshRefusals n t) noSession (started n) n (Fresh n) t
     (stage 1 (either (ℕ-discrete n 0) (decLt 128 n)) (λ p₁.
     stage 2 (decLt (length t) (n * n)) (λ p₂. (0, refl))))
-    (λ f. (over (fresh-list n) t, new f))
+    (λ f.
+    (over (fresh-list n) t, new, front-rest n (fresh-list n) t size (fresh-passed n t f .2)))
     in
-    (q .0, q .1, fresh-outcome .1 (q .2))
+    (q .0, q .1, record { replies = q .2 })
   where
     size : length (fresh-list n) ≡ n * n
     size = length-laid n fresh-mark
 
-    new : First (freshRefusals n t) 0 → NewTable n t (over (fresh-list n) t)
-    new f = (
-      record {
-        diagonal = λ a ha. front-mark n (fresh-list n) t size a a ha ha ∙ fresh-made n .diagonal a ha;
-        elsewhere = λ a b ha hb ne. front-mark n (fresh-list n) t size a b ha hb ∙ fresh-made n .elsewhere a b ha hb ne;
-      },
-      front-rest n (fresh-list n) t size (fresh-passed n t f .2),
-    )
+    new : Fresh n (over (fresh-list n) t)
+    new =
+        record {
+          diagonal = λ a ha. front-mark n (fresh-list n) t size a a ha ha ∙ fresh-made n .diagonal a ha;
+          elsewhere = λ a b ha hb ne.
+              front-mark n (fresh-list n) t size a b ha hb ∙ fresh-made n .elsewhere a b ha hb ne;
+        }
 
 -- an accepted fresh stands for the empty set of facts
 pub fresh-stands : {n : ℕ} {t : List ℕ} {r : Reply} {t′ : List ℕ} → Freshened n t r t′ → r .number ≡ 0 → StandsFor (Listed []) (r .session) t′
 fresh-stands {n} {t} {r} {t′} h e =
-    rw (h .session e)
+    rw (h .replies .session e)
     (record {
       within = λ f m. absurd (List·Memᴰ·not-nil m);
       table = table;
@@ -124,15 +95,15 @@ fresh-stands {n} {t} {r} {t′} h e =
           (record {
             some = passed .0;
             few = passed .1;
-            room = omega (arith, passed .2, h .rest e .size);
+            room = omega (arith, passed .2, h .replies .rest e .size);
             sound = table-sound table;
-            count = omega (arith, opens-diagonal n t′ (λ a ha z. omega (arith, h .table e .diagonal a ha)));
+            count = omega (arith, opens-diagonal n t′ (λ a ha z. omega (arith, h .replies .marks e .diagonal a ha)));
           })
           refl;
     })
   where
     passed : (1 ≤ n) × (n ≤ 128) × (n * n ≤ length t)
-    passed = fresh-passed n t (rw e at (h .number))
+    passed = fresh-passed n t (rw e at (h .replies .number))
 
     table : TableOf n (Listed []) t′
-    table = fresh-table (λ f m. absurd (List·Memᴰ·not-nil m)) (h .table e)
+    table = fresh-table (λ f m. absurd (List·Memᴰ·not-nil m)) (h .replies .marks e)

@@ -114,7 +114,7 @@ asked-accepted :
     {a b : ℕ} {v : Bool} {s : Session} {t : List ℕ} {r : Reply} {t′ : List ℕ} → Asked s t (Ask a b)
     → Answered s t (record { lower = a; upper = b; holds = v }) r t′ → r .number ≡ 0
 asked-accepted {a} {b} {v} {s} {t} {r} {t′} q h =
-    go (stands-first (tellRefusals s t f) (standing-passed [] (q .number) .0) (h .number))
+    go (stands-first (tellRefusals s t f) (standing-passed [] (q .number) .0) (h .replies .number))
   where
     f : Fact
     f = record { lower = a; upper = b; holds = v }

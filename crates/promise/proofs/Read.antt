@@ -207,7 +207,7 @@ follows-run book at (Item.said p kind a b v ∷ items) s t {r} {t′} l st (inr 
       λ _. rw (e .0) (l .0),
       stops-here book (h .1 .number) p (item ∷ items) (omega arith, l .1, l .2) k
           (Stopped.at-fact (l .1) (h .0) (fact-number (h .1 .number) (tell-numbers st took) k))
-          (rw (took .refused k .0, took .refused k .1) at e),
+          (rw (took .replies .refused k .0, took .replies .refused k .1) at e),
     )
     go (inr (k, e)) later =
         let x = later (tell-keeps st took k) e in (λ ne. omega (arith, x .0 ne, l .0), longer (x .0) (x .1))
@@ -252,7 +252,7 @@ read-run {book} {t} {r} {t′} h = go (itemsOf book) (items-whole book) (h .foll
 
         pick : Passes p q u r t′ (Follows items (q .session) u r t′) → ReadAs book t r t′
         pick (inl (k, x)) =
-            let same = fresh .refused k in
+            let same = fresh .replies .refused k in
             rw (x .0)
             (ReadAs.not-begun (w .0) (same .0) (x .1 ∙ same .1) (inl (omega arith, fresh-numbers fresh)))
         pick (inr (k, x)) =

@@ -55,7 +55,7 @@ run-stands {S} {s} {s′} {t} {t′} st (Run.call {m = m} {later = later} {t₁ 
         stands-equal (listed-with S (m .fact) (acceptedFacts later)) (with-listed S (m .fact) (acceptedFacts later))
         (next (S with m .fact) (tell-stands st h z))
     go (suc k) z next =
-        let q = h .refused (λ y. omega arith) in
+        let q = h .replies .refused (λ y. omega arith) in
         next S (rw (q .0, q .1) st)
 
 -- and one from fresh for the facts accepted
@@ -89,24 +89,24 @@ run-rest {t = t} Run.stop = rest-refl t
 run-rest {s} {s′} {t} {t′} (Run.call {m = m} {t₁ = t₁} {r = r} h e run) = go (ℕ-discrete (r .number) 0) (run-rest run)
   where
     go : Dec (r .number ≡ 0) → SameRest (r .session .classes) t₁ t′ → SameRest (s .classes) t t′
-    go (yes z) later = rest-trans (h .rest z) (rw (tell-opens h 0 z .0) at later)
-    go (no z) later = let q = h .refused z in rw (q .0, q .1) at later
+    go (yes z) later = rest-trans (h .replies .rest z) (rw (tell-opens h 0 z .0) at later)
+    go (no z) later = let q = h .replies .refused z in rw (q .0, q .1) at later
 
 -- A run from fresh: demand 3 for its class count.
 module _ {n : ℕ} {t : List ℕ} {calls : List Made} {s′ : Session} {t′ : List ℕ} (h : FromFresh n t calls s′ t′) where
   pub fresh-run-classes : s′ .classes ≡ n
-  fresh-run-classes = run-tests (h .run) .0 ∙ ap (λ (s : Session). s .classes) (h .began .session (h .accepted))
+  fresh-run-classes = run-tests (h .run) .0 ∙ ap (λ (s : Session). s .classes) (h .began .replies .session (h .accepted))
 
   -- "The tally is therefore a number read off the history."
   pub fresh-run-tests : s′ .tests ≡ testsIn (h .run)
   fresh-run-tests =
-      let e : h .reply .session .tests ≡ 0 = ap (λ (s : Session). s .tests) (h .began .session (h .accepted)) in
+      let e : h .reply .session .tests ≡ 0 = ap (λ (s : Session). s .tests) (h .began .replies .session (h .accepted)) in
       omega (arith, run-tests (h .run) .1)
 
   pub fresh-run-rest : SameRest n t t′
   fresh-run-rest =
-      let e : h .reply .session .classes ≡ n = ap (λ (s : Session). s .classes) (h .began .session (h .accepted)) in
-      rest-trans (h .began .rest (h .accepted)) (rw e at (run-rest (h .run)))
+      let e : h .reply .session .classes ≡ n = ap (λ (s : Session). s .classes) (h .began .replies .session (h .accepted)) in
+      rest-trans (h .began .replies .rest (h .accepted)) (rw e at (run-rest (h .run)))
 
   pub fresh-run-table : TableOf n (Listed (acceptedFacts calls)) t′
   fresh-run-table =
@@ -185,7 +185,7 @@ fresh-run-there calls n t some few room =
         reply = q .0;
         table = q .1;
         began = q .2;
-        accepted = fresh-accepted t some few room (q .2 .number);
+        accepted = fresh-accepted t some few room (q .2 .replies .number);
         run = x .3;
       },
       x .4,

@@ -9,7 +9,7 @@ use native.Mathlib.Nat.{add-zero}
 use native.Mathlib.Omega.{arith}
 use lib.ListN.{length}
 use Rattle.order.specs.Facts.{Fact, Facts, _with_, Below}
-use Rattle.order.specs.Tables.{mark, TableOf, Marks, Contradicts, SameRest, isOpen, opens, markAgainst}
+use Rattle.order.specs.Tables.{mark, TableOf, Marks, Contradicts, isOpen, opens, markAgainst}
 use Rattle.order.specs.Orders.{Impossible}
 use Rattle.order.specs.Refusals.{First}
 use Rattle.order.proofs.Decide.{either}
@@ -17,7 +17,7 @@ use Rattle.order.proofs.Refusals.{stage}
 use Rattle.order.proofs.Sets.{within-with}
 use Rattle.order.proofs.Tables.{table-unique, table-sound, table-with, table-settled, sound-table, marks-within, mark-for-settled, for-not-against}
 use Rattle.order.proofs.Exactness.{contradicts-exact}
-use Rattle.order.proofs.Bytes.{same-list, rest-refl, rest-sym, rest-trans, front-mark, front-rest}
+use Rattle.order.proofs.Bytes.{rest-refl, front-mark, front-rest}
 use Rattle.order.proofs.Counts.{opens-with}
 use Rattle.order.proofs.Taking.{taken-in, taken-table, newMark, length-laid}
 use Rattle.promise.specs.declared.Session.{Session}
@@ -28,45 +28,19 @@ use Rattle.promise.specs.Tell.{Kind, adds, tellRefusals, Took}
 use Rattle.promise.specs.Runs.{StandsFor}
 use Rattle.promise.specs.Buffers.{over}
 use Rattle.promise.proofs.Standing.{Stands, standing-passed, stands-first, first-stands, standing-there, below-of}
-use Rattle.promise.proofs.Replies.{reply, Outcome, outcome-unique, outcome-there}
+use Rattle.promise.proofs.Replies.{reply, replies-unique, replies-there}
 
--- the session and the table that an accepted fact leaves
+-- the session after an accepted fact, and the marks of its table
 abbrev pub sessionAfter : Kind → Session → List ℕ → Fact → Session
 sessionAfter kind s t f = tested (adds kind 0 (mark (s .classes) t (f .lower) (f .upper))) s
 
-abbrev pub TableAfter : Session → List ℕ → Fact → List ℕ → Type 0
-TableAfter s t f u = TableOf (s .classes) (Marks (s .classes) t with f) u × SameRest (s .classes) t u
-
-pub tell-outcome :
-    {kind : Kind} {s : Session} {t : List ℕ} {f : Fact} {r : Reply} {t′ : List ℕ}
-    → Took kind s t f r t′
-    ↔ Outcome (standing s t (tellRefusals s t f)) s (sessionAfter kind s t f) (TableAfter s t f) t r t′
-tell-outcome = (
-  λ h.
-      record {
-        number = h .number;
-        place = h .place;
-        refused = h .refused;
-        accepted = λ e. (h .session e, (h .table e, h .rest e));
-      },
-  λ h.
-      record {
-        number = h .number;
-        place = h .place;
-        refused = h .refused;
-        session = λ e. h .accepted e .0;
-        table = λ e. h .accepted e .1 .0;
-        rest = λ e. h .accepted e .1 .1;
-      },
-)
+abbrev pub MarksAfter : Session → List ℕ → Fact → List ℕ → Type 0
+MarksAfter s t f u = TableOf (s .classes) (Marks (s .classes) t with f) u
 
 pub tell-unique :
     {kind : Kind} {s : Session} {t : List ℕ} {f : Fact} {r r₂ : Reply} {t′ t₂ : List ℕ} → Took kind s t f r t′
     → Took kind s t f r₂ t₂ → (r ≡ r₂) × (t′ ≡ t₂)
-tell-unique {kind} {s} {t} {f} h h₂ =
-    outcome-unique (standing s t (tellRefusals s t f)) s (sessionAfter kind s t f) (TableAfter s t f) t
-    (λ u v a b. same-list (table-unique (a .0) (b .0)) (rest-trans (rest-sym (a .1)) (b .1)))
-    (tell-outcome .0 h) (tell-outcome .0 h₂)
+tell-unique h h₂ = replies-unique (λ u v. table-unique) (h .replies) (h₂ .replies)
 
 -- what is known of an accepted fact
 own-passed :
@@ -89,13 +63,14 @@ unfoldable pub tell-there :
     (kind : Kind) (s : Session) (t : List ℕ) (f : Fact) → (r : Reply) × (t′ : List ℕ) × Took kind s t f r t′
 tell-there kind s t f =
     let q =
-    outcome-there (standing s t (tellRefusals s t f)) s (sessionAfter kind s t f) (TableAfter s t f) t
+    replies-there (standing s t (tellRefusals s t f)) s (sessionAfter kind s t f) n (MarksAfter s t f) t
     (standing-there (tellRefusals s t f) s t (λ st.
     stage 5 (either (decLe n (f .lower)) (decLe n (f .upper))) (λ p₅.
     stage 6 (ℕ-discrete (mark n t (f .lower) (f .upper)) (markAgainst (f .holds))) (λ p₆. (0, refl)))))
-    (λ g. (over (taken-in n t f) t, new g))
+    (λ g.
+    (over (taken-in n t f) t, new g, front-rest n (taken-in n t f) t size (tell-passed s t f g .0 .room)))
     in
-    (q .0, q .1, tell-outcome .1 (q .2))
+    (q .0, q .1, record { replies = q .2 })
   where
     n : ℕ
     n = s .classes
@@ -103,16 +78,14 @@ tell-there kind s t f =
     size : length (taken-in n t f) ≡ n * n
     size = length-laid n (newMark n t (f .lower) (f .upper) (f .holds))
 
-    new : First (standing s t (tellRefusals s t f)) 0 → TableAfter s t f (over (taken-in n t f) t)
+    new : First (standing s t (tellRefusals s t f)) 0 → MarksAfter s t f (over (taken-in n t f) t)
     new g =
-        let p = tell-passed s t f g in (
-          record {
-            at = λ a b ha hb.
-                rw (front-mark n (taken-in n t f) t size a b ha hb)
-                (taken-table n t (p .0 .sound) f (p .1) (p .2) .at a b ha hb);
-          },
-          front-rest n (taken-in n t f) t size (p .0 .room),
-        )
+        let p = tell-passed s t f g in
+        record {
+          at = λ a b ha hb.
+              rw (front-mark n (taken-in n t f) t size a b ha hb)
+              (taken-table n t (p .0 .sound) f (p .1) (p .2) .at a b ha hb);
+        }
 
 -- a fact that the table has already, by a session that stands, is accepted and changes nothing
 pub agreeing-unchanged :
@@ -131,18 +104,21 @@ agreeing-unchanged {kind} {s} {t} {f} {r} {t′} st m h = tell-unique h same
     same : Took kind s t f (reply 0 0 s) t
     same =
         record {
-          number =
-              first-stands (tellRefusals s t f) st
-              (inr (
-                λ z. elim z [ inl p ↦ omega (arith, m .lower-below) | inr p ↦ omega (arith, m .upper-below) ],
-                inr (λ z. for-not-against (f .holds) (sym (m .settled) ∙ z), refl),
-              ));
-          place = refl;
-          refused = λ z. absurd (z refl);
-          session = λ _.
-              rw (none-added kind (mark (s .classes) t (f .lower) (f .upper)) settled, add-zero (s .tests)) refl;
-          table = λ _. table-settled f (sound-table (st .sound)) m;
-          rest = λ _. rest-refl t;
+          replies =
+              record {
+                number =
+                    first-stands (tellRefusals s t f) st
+                    (inr (
+                      λ z. elim z [ inl p ↦ omega (arith, m .lower-below) | inr p ↦ omega (arith, m .upper-below) ],
+                      inr (λ z. for-not-against (f .holds) (sym (m .settled) ∙ z), refl),
+                    ));
+                place = refl;
+                refused = λ z. absurd (z refl);
+                session = λ _.
+                    rw (none-added kind (mark (s .classes) t (f .lower) (f .upper)) settled, add-zero (s .tests)) refl;
+                marks = λ _. table-settled f (sound-table (st .sound)) m;
+                rest = λ _. rest-refl t;
+              };
         }
 
 -- what an accepted fact counts, and what stays open, is no more than was open
@@ -153,11 +129,11 @@ pub tell-opens :
     × (r .session .tests ≡ s .tests + adds kind k (mark (s .classes) t (f .lower) (f .upper)))
     × (adds kind k (mark (s .classes) t (f .lower) (f .upper)) + opens (s .classes) t′ ≤ opens (s .classes) t)
 tell-opens {kind} {s} {t} {f} {r} {t′} h zero e =
-    let p = tell-passed s t f (rw e at (h .number)) in
-    let le = opens-with f (marks-within {n = s .classes} {t = t}) (p .1) (sound-table (p .0 .sound)) (h .table e) in
+    let p = tell-passed s t f (rw e at (h .replies .number)) in
+    let le = opens-with f (marks-within {n = s .classes} {t = t}) (p .1) (sound-table (p .0 .sound)) (h .replies .marks e) in
     let q = few kind (mark (s .classes) t (f .lower) (f .upper)) in (
-      ap (λ (x : Session). x .classes) (h .session e),
-      ap (λ (x : Session). x .tests) (h .session e),
+      ap (λ (x : Session). x .classes) (h .replies .session e),
+      ap (λ (x : Session). x .tests) (h .replies .session e),
       omega arith,
     )
   where
@@ -166,7 +142,7 @@ tell-opens {kind} {s} {t} {f} {r} {t′} h zero e =
     few Kind.answer zero = omega arith
     few Kind.answer (suc m) = omega arith
 tell-opens {kind} {s} {t} {f} {r} {t′} h (suc k) e =
-    let q = h .refused (λ z. omega arith) in
+    let q = h .replies .refused (λ z. omega arith) in
     rw (q .0, q .1, none kind) (refl, omega arith, omega arith)
   where
     none : (kind : Kind) → adds kind (suc k) (mark (s .classes) t (f .lower) (f .upper)) ≡ 0
@@ -178,12 +154,12 @@ pub tell-keeps :
     {kind : Kind} {s : Session} {t : List ℕ} {f : Fact} {r : Reply} {t′ : List ℕ} → Stands s t → Took kind s t f r t′
     → r .number ≡ 0 → Stands (r .session) t′
 tell-keeps {kind} {s} {t} {f} {r} {t′} st h e =
-    rw (h .session e)
+    rw (h .replies .session e)
     (record {
       some = st .some;
       few = st .few;
-      room = omega (arith, st .room, h .rest e .size);
-      sound = table-sound (h .table e);
+      room = omega (arith, st .room, h .replies .rest e .size);
+      sound = table-sound (h .replies .marks e);
       count = omega (arith, st .count, tell-opens h 0 e .2);
     })
 
@@ -196,8 +172,8 @@ pub tell-stands :
     → Took kind s t f r t′ → r .number ≡ 0 → StandsFor (S with f) (r .session) t′
 tell-stands {kind} {S} {s} {t} {f} {r} {t′} st h e =
     record {
-      within = rw classes (within-with (st .within) (tell-passed s t f (rw e at (h .number)) .1));
-      table = rw classes (table-with f (st .within) (st .table) .1 (h .table e));
+      within = rw classes (within-with (st .within) (tell-passed s t f (rw e at (h .replies .number)) .1));
+      table = rw classes (table-with f (st .within) (st .table) .1 (h .replies .marks e));
       stands = first-stands [] (tell-keeps (stands-of st) h e) refl;
     }
   where
@@ -208,7 +184,7 @@ tell-stands {kind} {S} {s} {t} {f} {r} {t′} st h e =
 pub tell-numbers :
     {kind : Kind} {s : Session} {t : List ℕ} {f : Fact} {r : Reply} {t′ : List ℕ} → Stands s t → Took kind s t f r t′
     → (r .number ≡ 0) ⊎ (r .number ≡ 5) ⊎ (r .number ≡ 6)
-tell-numbers {kind} {s} {t} {f} {r} st h = go (stands-first (tellRefusals s t f) st (h .number))
+tell-numbers {kind} {s} {t} {f} {r} st h = go (stands-first (tellRefusals s t f) st (h .replies .number))
   where
     go : First (tellRefusals s t f) (r .number) → (r .number ≡ 0) ⊎ (r .number ≡ 5) ⊎ (r .number ≡ 6)
     go (inl (_, e)) = inr (inl e)
@@ -221,7 +197,7 @@ pub tell-refused :
     {kind : Kind} {S : Facts} {s : Session} {t : List ℕ} {f : Fact} {r : Reply} {t′ : List ℕ} → StandsFor S s t
     → Below (s .classes) f → Took kind s t f r t′
     → ((r .number ≢ 0) ↔ Impossible (s .classes) (S with f)) × (r .number ≢ 0 → r .number ≡ 6)
-tell-refused {kind} {S} {s} {t} {f} {r} st b h = go (stands-first (tellRefusals s t f) (stands-of st) (h .number))
+tell-refused {kind} {S} {s} {t} {f} {r} st b h = go (stands-first (tellRefusals s t f) (stands-of st) (h .replies .number))
   where
     exact : Contradicts (s .classes) t f ↔ Impossible (s .classes) (S with f)
     exact = contradicts-exact (st .within) (st .table) f b

@@ -11,7 +11,7 @@ use Rattle.order.proofs.Sound.{is, sound?, transitive?, pruned?}
 use Rattle.order.proofs.Taking.{yes-after-yes?, no-after-yes?, no-after-no?}
 use Rattle.order.proofs.Pairs.{rowTo, rowsTo}
 use Rattle.promise.proofs.Standing.{standing-there}
-use Rattle.promise.proofs.Replies.{outcome-there}
+use Rattle.promise.proofs.Replies.{replies-there}
 use Rattle.promise.specs.Book.{fieldFault, tellsFrom, answersFrom, itemsFrom}
 use Rattle.promise.proofs.Buffers.{too-short?, writes-there}
 use Rattle.promise.proofs.Fresh.{fresh-there}
@@ -56,7 +56,7 @@ all-meet (row ∷ rows) = (meets row, all-meet rows)
 
 -- what is there, computed, is the table itself
 computed : allAnswered marks ≡ marks
-unfolding mark opensTo decLt decLe ℕ-discrete both either implies negated as-well all-below some-below all-pairs least least-from stage is sound? transitive? pruned? yes-after-yes? no-after-yes? no-after-no? rowTo rowsTo standing-there outcome-there fresh-there tell-there next-there first-of under? equal? head-of? head? third? direct? head-there list-there heads-there too-short? hierarchy-there number-there above? to-go between direct-there rung-there rungs-there ladder-there ladder-made writes-there ladder-written-there fieldFault tellsFrom answersFrom itemsFrom passes-there follows-there read-there off? book-there write-there
+unfolding mark opensTo decLt decLe ℕ-discrete both either implies negated as-well all-below some-below all-pairs least least-from stage is sound? transitive? pruned? yes-after-yes? no-after-yes? no-after-no? rowTo rowsTo standing-there replies-there fresh-there tell-there next-there first-of under? equal? head-of? head? third? direct? head-there list-there heads-there too-short? hierarchy-there number-there above? to-go between direct-there rung-there rungs-there ladder-there ladder-made writes-there ladder-written-there fieldFault tellsFrom answersFrom itemsFrom passes-there follows-there read-there off? book-there write-there
 computed = refl
 
 -- P1 to P12, and the other worked marks, from the definitions

@@ -432,7 +432,7 @@ module _ (n : ℕ) (G : Facts) (within : Within n G) (possible : ¬ Impossible n
           → (r ≡ reply 0 0 (started n)) × StandsFor (S and Listed (f ∷ factsSaid items)) (started n) t′
       go (inl (k, e)) later = absurd (accepted k)
       go (inr (k, e)) later =
-          let same : q .session ≡ started n = took .session k in
+          let same : q .session ≡ started n = took .replies .session k in
           let x = later (rw same at (tell-stands st took k)) (rw same at e) in
           (x .0, stands-equal (listed-with S f (factsSaid items)) (with-listed S f (factsSaid items)) (x .1))
 
@@ -489,14 +489,14 @@ read-back {n} {t} {book} {u} {r} {u′} k st some few room h = begun (subst (λ 
     begun (q, u₁, fresh, passes) = go passes
       where
         number : q .number ≡ 0
-        number = fresh-accepted u some few room (fresh .number)
+        number = fresh-accepted u some few room (fresh .replies .number)
 
         go :
             Passes 0 q u₁ r u′ (Follows items (q .session) u₁ r u′)
             → (r ≡ reply 0 0 (started n)) × SameMarks n t u′
         go (inl (z, _)) = absurd (z number)
         go (inr (z, later)) =
-            let session = fresh .session z in
+            let session = fresh .replies .session z in
             let x =
             told-accepted n (Marks n t) marks-within (table-possible marks-within (sound-table st)) items (Listed []) u₁ u′
             (λ f m. absurd (List·Memᴰ·not-nil m)) told (rw session at (fresh-stands fresh z)) (rw session at later)

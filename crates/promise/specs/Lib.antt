@@ -1,5 +1,6 @@
 pub mod Sessions
 pub mod Refusals
+pub mod Replies
 pub mod Fresh
 pub mod Tell
 pub mod Runs

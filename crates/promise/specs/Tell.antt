@@ -1,16 +1,15 @@
 -- Tell and answer: a fact is taken in.
 -- Assumes nothing.
-use mathlib.Core.Path.{_≡_}
-use mathlib.Core.Logic.{_≢_}
 use mathlib.Core.List.{List, [], _∷_}
 use Prim.Native.Nat.{ℕ, zero, suc}
 use Rattle.order.specs.Facts.{Fact, _with_}
-use Rattle.order.specs.Tables.{mark, TableOf, Marks, SameRest}
-use Rattle.order.specs.Refusals.{Condition, First}
+use Rattle.order.specs.Tables.{mark, TableOf, Marks}
+use Rattle.order.specs.Refusals.{Condition}
 use Rattle.promise.specs.declared.Session.{Session}
 use Rattle.promise.specs.declared.Reply.{Reply}
 use Rattle.promise.specs.Sessions.{tested}
 use Rattle.promise.specs.Refusals.{standing, noSuchClass, contradicted}
+use Rattle.promise.specs.Replies.{Replies}
 
 -- the two ways to take in a fact
 pub data Kind : Type 0 where
@@ -29,14 +28,12 @@ adds Kind.answer (suc k) m = 0
 abbrev pub tellRefusals : Session → List ℕ → Fact → List Condition
 tellRefusals s t f = noSuchClass (s .classes) (f .lower) (f .upper) ∷ contradicted (s .classes) t f ∷ []
 
--- with session s and table t the fact f is told, or given as an answer: the reply is r, and the table is then t′
+-- With session s and table t the fact f is told, or given as an answer: the reply is r, and the table is then t′, the table of the
+-- marks of t and of f.
 pub record Took (kind : Kind) (s : Session) (t : List ℕ) (f : Fact) (r : Reply) (t′ : List ℕ) : Type 0 where
-  pub number : First (standing s t (tellRefusals s t f)) (r .number)
-  pub place : r .place ≡ 0
-  pub refused : r .number ≢ 0 → (r .session ≡ s) × (t′ ≡ t)
-  pub session : r .number ≡ 0 → r .session ≡ tested (adds kind 0 (mark (s .classes) t (f .lower) (f .upper))) s
-  pub table : r .number ≡ 0 → TableOf (s .classes) (Marks (s .classes) t with f) t′
-  pub rest : r .number ≡ 0 → SameRest (s .classes) t t′
+  pub replies :
+      Replies (standing s t (tellRefusals s t f)) s (tested (adds kind 0 (mark (s .classes) t (f .lower) (f .upper))) s)
+      (s .classes) (TableOf (s .classes) (Marks (s .classes) t with f)) t r t′
 
 abbrev pub Told : Session → List ℕ → Fact → Reply → List ℕ → Type 0
 Told = Took Kind.tell
