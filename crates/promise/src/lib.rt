@@ -26,3 +26,15 @@ pub enum Wrote {
     Count(usize),
     Refused { number: u8, place: usize },
 }
+
+// The most classes that a table may have.
+pub const MOST_CLASSES: usize = 128;
+
+// The refusal numbers.
+pub const BAD_COUNT: u8 = 1;
+
+pub const SHORT_TABLE: u8 = 2;
+
+pub const NOT_SOUND: u8 = 3;
+
+pub const OVERCOUNTED: u8 = 4;

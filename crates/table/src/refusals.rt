@@ -1,0 +1,43 @@
+// The refusals with which every call but fresh and reading starts.
+use crate::marks::count_open;
+use crate::sound::is_sound;
+use promise::BAD_COUNT;
+use promise::MOST_CLASSES;
+use promise::NOT_SOUND;
+use promise::OVERCOUNTED;
+use promise::SHORT_TABLE;
+use promise::Session;
+ghost use mathlib.Core.List.{[]};
+ghost use Rattle.order.specs.Refusals.{First};
+ghost use Rattle.promise.specs.Refusals.{standing};
+
+// The first of the refusals 1 to 4 that is due, 0 if none is.
+pub fn standing(session: Session, table: &[u8]) -> u8
+    ensures { λ r. ⌜ First (standing session (now (table .entry)) []) r ⌝ }
+{
+    let n = session.classes;
+    if n == 0 {
+        return BAD_COUNT;
+    }
+    if MOST_CLASSES < n {
+        return BAD_COUNT;
+    }
+    let pairs = n * n;
+    if table.len() < pairs {
+        return SHORT_TABLE;
+    }
+    let sound = is_sound(n, table);
+    if !sound {
+        return NOT_SOUND;
+    }
+    let most = pairs - n;
+    let tests = session.tests;
+    if most < tests {
+        return OVERCOUNTED;
+    }
+    let open = count_open(n, table);
+    if most - tests < open {
+        return OVERCOUNTED;
+    }
+    0
+}
