@@ -24,8 +24,9 @@ pub record Stands (s : Session) (t : List ℕ) : Type 0 where
   pub sound : Sound (s .classes) t
   pub count : s .tests + opens (s .classes) t + s .classes ≤ s .classes * s .classes
 
-square : (n : ℕ) → 1 ≤ n → n ≤ n * n
-square n h = omega (arith, mul-le-mul-right n h)
+-- n is at most its square
+pub square-above : (n : ℕ) → 1 ≤ n → n ≤ n * n
+square-above n h = omega (arith, mul-le-mul-right n h)
 
 pub standing-passed :
     (own : List Condition) {s : Session} {t : List ℕ} → First (standing s t own) 0 → Stands s t × First own 0
@@ -39,7 +40,7 @@ standing-passed own {s} {t} (inr (p, inr (q, inr (r, inr (v, w))))) = (
     few = stable (decLe (s .classes) 128) (λ z. p (inr (omega arith)));
     room = omega arith;
     sound = stable (sound? (s .classes) t) r;
-    count = omega (arith, square (s .classes) some);
+    count = omega (arith, square-above (s .classes) some);
   },
   w,
 )

@@ -1,0 +1,5 @@
+pub mod Index
+pub mod Upto
+pub mod Pass
+pub mod Soundness
+pub mod Passes

@@ -1,0 +1,28 @@
+-- `table::fact::take_no` meets its contract: one pass.
+-- Assumes nothing.
+use borrow.Author.Needs.{needs}
+use Rattle.table.proofs.Passes.{no-ready, no-taken}
+use Rattle.table.proofs.fact.take_no.Statement.{statement}
+use Rattle.table.proofs.fact.take_no.Tie as tie
+
+row-requires : tie.Need-row-requires
+row-requires c κs = search needs
+
+column-requires : tie.Need-column-requires
+column-requires c κs = search needs
+
+spread-requires : tie.Need-spread-requires
+spread-requires c κs = rw (c .before .row .ensures, c .column .ensures) (no-ready (c .before .before .before .before .pre))
+
+same-length : tie.Need-same-length
+same-length c = search needs
+
+returns : tie.Need-returns
+returns c =
+    let passed = c .before .before in
+    let lines = passed .before in
+    no-taken (lines .before .before .before .before .pre)
+    (rw (lines .before .row .ensures, lines .column .ensures) at (passed .spread .ensures))
+
+pub take-no-spec : {M : Type 1} → statement M
+take-no-spec = tie.close (tie.spec row-requires column-requires spread-requires same-length returns)

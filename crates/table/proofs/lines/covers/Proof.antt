@@ -1,0 +1,65 @@
+-- `table::lines::covers` meets its contract: every class passed that is on the inner line is on the outer one.
+-- Assumes nothing.
+use mathlib.Core.Path.{refl, sym, _∙_}
+use mathlib.Core.Logic.{⊎-elim}
+use mathlib.Core.Bool.{false≢true}
+use Prim.Native.Nat.{_-_}
+use native.Mathlib.Omega.{arith}
+use borrow.Author.Needs.{needs}
+use borrow.Author.Tests.{not-true, not-false}
+use Rattle.table.specs.Lines.{On}
+use Rattle.table.proofs.Upto.{Upto, none, more, all}
+use Rattle.table.proofs.lines.covers.Statement.{statement}
+use Rattle.table.proofs.lines.covers.Tie as tie
+
+abbrev Inv-loop : tie.InvT-loop
+Inv-loop n table outer inner x₀ x = Upto n (λ z. On n table inner z → On n table outer z) x
+
+abbrev μ-loop : tie.MeasureT-loop
+μ-loop n table outer inner x₀ x = n - x
+
+loop-holds : tie.Need-loop-holds Inv-loop μ-loop
+loop-holds c = none
+
+on-requires : tie.Need-on-requires Inv-loop μ-loop
+on-requires c κs = search needs
+
+on-requires-2 : tie.Need-on-requires-2 Inv-loop μ-loop
+on-requires-2 c κs = search needs
+
+returns : tie.Need-returns Inv-loop μ-loop
+returns c =
+    let inside = c .before .before .before .on .ensures .0 (c .before .before .if1 .taken) in (
+      λ e. absurd (false≢true e),
+      λ h. absurd (false≢true (sym (not-true _ (c .if2 .taken)) ∙ c .before .on2 .ensures .1 (h .at _ (omega arith) inside))),
+    )
+
+add-x : tie.Need-add-x Inv-loop μ-loop
+add-x c = omega arith
+
+loop-less : tie.Need-loop-less Inv-loop μ-loop
+loop-less c = omega arith
+
+loop-again : tie.Need-loop-again Inv-loop μ-loop
+loop-again c =
+    more (omega arith) (c .before .before .before .loop .inv)
+    (⊎-elim (λ w _. w .1 .ensures .0 (not-false _ (w .2 .left)))
+    (λ w q. absurd (false≢true (sym (w .left) ∙ c .before .on .ensures .1 q))) (c .if1 .came))
+
+returns-2 : tie.Need-returns-2 Inv-loop μ-loop
+returns-2 c = (λ _. record { at = all (c .loop-test .left) (c .before .loop .inv) }, λ _. refl)
+
+pub covers-spec : {M : Type 1} → statement M
+covers-spec =
+    tie.close
+    (tie.spec
+    Inv-loop
+    μ-loop
+    loop-holds
+    on-requires
+    on-requires-2
+    returns
+    add-x
+    loop-less
+    loop-again
+    returns-2)
