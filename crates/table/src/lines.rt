@@ -51,10 +51,10 @@ pub fn covers(n: usize, table: &[u8], outer: Line, inner: Line) -> bool
     requires { ⌜ (Shape n (now table)) × (outer .class < n) × (inner .class < n) ⌝ }
     ensures { λ r. ⌜ (r ≡ true) ↔ Covers n (now (table .entry)) outer inner ⌝ }
 {
-    for x in 0..n {
-        let inside = on(n, table, inner, x);
+    for z in 0..n {
+        let inside = on(n, table, inner, z);
         if inside {
-            let outside = on(n, table, outer, x);
+            let outside = on(n, table, outer, z);
             if !outside {
                 return false;
             }

@@ -12,7 +12,9 @@ column-requires : tie.Need-column-requires
 column-requires c κs = search needs
 
 spread-requires : tie.Need-spread-requires
-spread-requires c κs = rw (c .before .row .ensures, c .column .ensures) (no-ready (c .before .before .before .before .pre))
+spread-requires c κs =
+    let lines = c .before in
+    rw (lines .before .row .ensures, lines .column .ensures) (no-ready (lines .before .before .before .pre))
 
 same-length : tie.Need-same-length
 same-length c = search needs
@@ -20,8 +22,8 @@ same-length c = search needs
 returns : tie.Need-returns
 returns c =
     let passed = c .before .before in
-    let lines = passed .before in
-    no-taken (lines .before .before .before .before .pre)
+    let lines = passed .before .before in
+    no-taken (lines .before .before .before .pre)
     (rw (lines .before .row .ensures, lines .column .ensures) at (passed .spread .ensures))
 
 pub take-no-spec : {M : Type 1} → statement M

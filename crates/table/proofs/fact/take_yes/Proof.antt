@@ -11,39 +11,40 @@ column-requires c κs = search needs
 row-requires : tie.Need-row-requires
 row-requires c κs = search needs
 
-spread-requires : tie.Need-spread-requires
-spread-requires c κs =
-    rw (c .before .column .ensures, c .row .ensures) (first-ready (c .before .before .before .before .pre))
-
 row-requires-2 : tie.Need-row-requires-2
 row-requires-2 c κs = search needs
-
-row-requires-3 : tie.Need-row-requires-3
-row-requires-3 c κs = search needs
-
-spread-requires-2 : tie.Need-spread-requires-2
-spread-requires-2 c κs =
-    let one = c .before .before .before .before .before in
-    let lines = one .before in
-    rw (c .before .row2 .ensures, c .row3 .ensures)
-    (second-ready (lines .before .before .before .before .pre)
-    (rw (lines .before .column .ensures, lines .row .ensures) at (one .spread .ensures)))
 
 column-requires-2 : tie.Need-column-requires-2
 column-requires-2 c κs = search needs
 
-column-requires-3 : tie.Need-column-requires-3
-column-requires-3 c κs = search needs
+spread-requires : tie.Need-spread-requires
+spread-requires c κs =
+    let lines = c .before in
+    let above-b = lines .before .before in
+    let under-a = above-b .before in
+    rw (under-a .column .ensures, above-b .row .ensures) (first-ready (under-a .before .before .pre))
+
+spread-requires-2 : tie.Need-spread-requires-2
+spread-requires-2 c κs =
+    let one = c .before .before .before in
+    let lines = one .before .before in
+    let above-b = lines .before .before in
+    let under-a = above-b .before in
+    rw (above-b .row .ensures, lines .before .row2 .ensures)
+    (second-ready (under-a .before .before .pre)
+    (rw (under-a .column .ensures, above-b .row .ensures) at (one .spread .ensures)))
 
 spread-requires-3 : tie.Need-spread-requires-3
 spread-requires-3 c κs =
-    let two = c .before .before .before .before .before in
-    let one = two .before .before .before .before .before .before in
-    let lines = one .before in
-    rw (c .before .column2 .ensures, c .column3 .ensures)
-    (third-ready (lines .before .before .before .before .pre)
-    (rw (lines .before .column .ensures, lines .row .ensures) at (one .spread .ensures))
-    (rw (two .before .before .row2 .ensures, two .before .row3 .ensures) at (two .spread2 .ensures)))
+    let two = c .before .before .before in
+    let one = two .before .before .before .before in
+    let lines = one .before .before in
+    let above-b = lines .before .before in
+    let under-a = above-b .before in
+    rw (lines .column2 .ensures, under-a .column .ensures)
+    (third-ready (under-a .before .before .pre)
+    (rw (under-a .column .ensures, above-b .row .ensures) at (one .spread .ensures))
+    (rw (above-b .row .ensures, lines .before .row2 .ensures) at (two .spread2 .ensures)))
 
 same-length : tie.Need-same-length
 same-length c = search needs
@@ -51,13 +52,15 @@ same-length c = search needs
 returns : tie.Need-returns
 returns c =
     let three = c .before .before in
-    let two = three .before .before .before .before .before .before in
-    let one = two .before .before .before .before .before .before in
-    let lines = one .before in
-    yes-taken (lines .before .before .before .before .pre)
-    (rw (lines .before .column .ensures, lines .row .ensures) at (one .spread .ensures))
-    (rw (two .before .before .row2 .ensures, two .before .row3 .ensures) at (two .spread2 .ensures))
-    (rw (three .before .before .column2 .ensures, three .before .column3 .ensures) at (three .spread3 .ensures))
+    let two = three .before .before .before .before in
+    let one = two .before .before .before .before in
+    let lines = one .before .before in
+    let above-b = lines .before .before in
+    let under-a = above-b .before in
+    yes-taken (under-a .before .before .pre)
+    (rw (under-a .column .ensures, above-b .row .ensures) at (one .spread .ensures))
+    (rw (above-b .row .ensures, lines .before .row2 .ensures) at (two .spread2 .ensures))
+    (rw (lines .column2 .ensures, under-a .column .ensures) at (three .spread3 .ensures))
 
 pub take-yes-spec : {M : Type 1} → statement M
 take-yes-spec =
@@ -65,12 +68,10 @@ take-yes-spec =
     (tie.spec
     column-requires
     row-requires
-    spread-requires
     row-requires-2
-    row-requires-3
-    spread-requires-2
     column-requires-2
-    column-requires-3
+    spread-requires
+    spread-requires-2
     spread-requires-3
     same-length
     returns)

@@ -13,10 +13,10 @@ use Rattle.table.proofs.lines.covers.Statement.{statement}
 use Rattle.table.proofs.lines.covers.Tie as tie
 
 abbrev Inv-loop : tie.InvT-loop
-Inv-loop n table outer inner x₀ x = Upto n (λ z. On n table inner z → On n table outer z) x
+Inv-loop n table outer inner z₀ z = Upto n (λ x. On n table inner x → On n table outer x) z
 
 abbrev μ-loop : tie.MeasureT-loop
-μ-loop n table outer inner x₀ x = n - x
+μ-loop n table outer inner z₀ z = n - z
 
 loop-holds : tie.Need-loop-holds Inv-loop μ-loop
 loop-holds c = none
@@ -34,8 +34,8 @@ returns c =
       λ h. absurd (false≢true (sym (not-true _ (c .if2 .taken)) ∙ c .before .on2 .ensures .1 (h .at _ (omega arith) inside))),
     )
 
-add-x : tie.Need-add-x Inv-loop μ-loop
-add-x c = omega arith
+add-z : tie.Need-add-z Inv-loop μ-loop
+add-z c = omega arith
 
 loop-less : tie.Need-loop-less Inv-loop μ-loop
 loop-less c = omega arith
@@ -59,7 +59,7 @@ covers-spec =
     on-requires
     on-requires-2
     returns
-    add-x
+    add-z
     loop-less
     loop-again
     returns-2)
