@@ -1,4 +1,5 @@
--- Laws of the count of open pairs: it is 0 exactly when no pair is open, the diagonal is never open in it, and how a fact changes it.
+-- Laws of the count of open pairs: it is 0 exactly when no pair is open, how a fact changes it, and that n*n - n bounds it where the
+-- diagonal is settled.
 -- Assumes nothing.
 use mathlib.Core.Path.{_≡_, refl, sym, _∙_, ap, subst}
 use mathlib.Core.Logic.{_↔_, _≢_}

@@ -5,7 +5,12 @@ use mathlib.Core.Logic.{_↔_, _⊎_, inl, inr}
 use mathlib.Core.Bool.{Bool, true, false}
 use mathlib.Core.List.{List, _∷_, List·Memᴰ·head, List·Memᴰ·tail}
 use Prim.Native.Nat.{ℕ}
-use Rattle.order.specs.Facts.{Fact, Facts, Listed, under, notUnder, _with_, _and_, _⊆_, Below, Within, Chain, Yes, No}
+use Rattle.order.specs.Facts.{Fact, Facts, Listed, under, notUnder, _with_, _⊆_, Below, Within, Chain, Yes, No}
+
+-- the facts of S, and those of S′
+infixl 20 _and_
+abbrev pub _and_ : Facts → Facts → Facts
+_and_ S S′ f = S f ⊎ S′ f
 
 pub chain-append : {S : Facts} {a b c : ℕ} → Chain S a b → Chain S b c → Chain S a c
 chain-append Chain.stop q = q

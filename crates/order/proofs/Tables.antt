@@ -60,7 +60,7 @@ settles-unique {m} {m′} {Y} {N} s s′ = go (which m (s .small)) (which m′ (
     go (Mark.is-yes e) q = let z : m′ ≡ 1 = s′ .one .1 (s .one .0 e) in omega arith
     go (Mark.is-no e) q = let z : m′ ≡ 2 = s′ .two .1 (s .two .0 e) in omega arith
 
--- "facts determine the marks": a set of facts has one table at most
+-- facts determine the marks: a set of facts has one table at most
 pub table-unique : {n : ℕ} {S : Facts} {t t′ : List ℕ} → TableOf n S t → TableOf n S t′ → SameMarks n t t′
 table-unique h h′ = record { at = λ a b ha hb. settles-unique (h .at a b ha hb) (h′ .at a b ha hb) }
 

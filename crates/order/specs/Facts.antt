@@ -33,11 +33,6 @@ infixl 20 _with_
 abbrev pub _with_ : Facts → Fact → Facts
 _with_ S f g = S g ⊎ (g ≡ f)
 
--- the facts of S, and those of S′
-infixl 20 _and_
-abbrev pub _and_ : Facts → Facts → Facts
-_and_ S S′ f = S f ⊎ S′ f
-
 -- every fact of S is one of S′
 infix 4 _⊆_
 abbrev pub _⊆_ : Facts → Facts → Type 0

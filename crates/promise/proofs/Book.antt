@@ -31,6 +31,11 @@ TakenAs Tag.no-facts book p kind v = (kind ≡ Kind.tell) × (v ≡ 0)
 TakenAs Tag.answers book p kind v = (kind ≡ Kind.answer) × (v ≡ getD book (p + 2) 0)
 TakenAs Tag.unknown book p kind v = ⊥
 
+-- how many bytes a fact has
+abbrev pub width : Kind → ℕ
+width Kind.tell = 2
+width Kind.answer = 3
+
 -- the fact at place p: its two classes are the bytes there, and it stands in a whole field whose tag says how it is taken
 pub record SaidAt (book : List ℕ) (p : ℕ) (kind : Kind) (a b v : ℕ) : Type 0 where
   pub lower : a ≡ getD book p 0
@@ -38,7 +43,7 @@ pub record SaidAt (book : List ℕ) (p : ℕ) (kind : Kind) (a b v : ℕ) : Type
   pub field : ℕ
   pub is-field : FieldAt book field
   pub from : field + 3 ≤ p
-  pub to : p + 2 ≤ field + 3 + lengthAt book field
+  pub to : p + width kind ≤ field + 3 + lengthAt book field
   pub whole : field + 3 + lengthAt book field ≤ length book
   pub taken : TakenAs (tagOf (getD book field 0)) book p kind v
 
@@ -77,14 +82,14 @@ later-append book at e (Item.said p kind a b v ∷ xs) ys h l =
     (h .0, h .2, later-append book (suc p) e xs ys (h .3) l)
 later-append book at e (Item.fault p k ∷ xs) ys h l = absurd h
 
--- these bytes stand in the book from place at on
-pub record StandIn (book : List ℕ) (at : ℕ) (bytes : List ℕ) : Type 0 where
+-- the book has these bytes from place at on
+pub record BytesAt (book : List ℕ) (at : ℕ) (bytes : List ℕ) : Type 0 where
   pub byte : (i : ℕ) → i < length bytes → getD bytes i 0 ≡ getD book (at + i) 0
   pub inside : at + length bytes ≤ length book
 
 stand-tail :
-    {book : List ℕ} {at x : ℕ} {bytes : List ℕ} → StandIn book at (x ∷ bytes)
-    → (x ≡ getD book at 0) × StandIn book (at + 1) bytes
+    {book : List ℕ} {at x : ℕ} {bytes : List ℕ} → BytesAt book at (x ∷ bytes)
+    → (x ≡ getD book at 0) × BytesAt book (at + 1) bytes
 stand-tail {book} {at} {x} {bytes} h = (
   rw (add-zero at) at (h .byte 0 (omega arith)),
   record {
@@ -96,8 +101,8 @@ stand-tail {book} {at} {x} {bytes} h = (
 )
 
 stand-take :
-    {book : List ℕ} {at : ℕ} {bytes : List ℕ} (k : ℕ) → StandIn book at bytes → k ≤ length bytes
-    → StandIn book at (take k bytes)
+    {book : List ℕ} {at : ℕ} {bytes : List ℕ} (k : ℕ) → BytesAt book at bytes → k ≤ length bytes
+    → BytesAt book at (take k bytes)
 stand-take {book} {at} {bytes} k h l =
     let size : length (take k bytes) ≡ k = simp length-take (omega arith) in
     record {
@@ -106,8 +111,8 @@ stand-take {book} {at} {bytes} k h l =
     }
 
 stand-drop :
-    {book : List ℕ} {at : ℕ} {bytes : List ℕ} (k : ℕ) → StandIn book at bytes → k ≤ length bytes
-    → StandIn book (at + k) (drop k bytes)
+    {book : List ℕ} {at : ℕ} {bytes : List ℕ} (k : ℕ) → BytesAt book at bytes → k ≤ length bytes
+    → BytesAt book (at + k) (drop k bytes)
 stand-drop {book} {at} {bytes} k h l =
     let size : length (drop k bytes) ≡ length bytes - k = length-drop k bytes in
     record {
@@ -127,7 +132,7 @@ module _ (book : List ℕ) (q : ℕ) (is-field : FieldAt book q) (whole : q + 3 
   after = q + 3 + lengthAt book q
 
   said-at :
-      {p a b v : ℕ} {kind : Kind} → a ≡ getD book p 0 → b ≡ getD book (p + 1) 0 → q + 3 ≤ p → p + 2 ≤ after
+      {p a b v : ℕ} {kind : Kind} → a ≡ getD book p 0 → b ≡ getD book (p + 1) 0 → q + 3 ≤ p → p + width kind ≤ after
       → TakenAs (tagOf (getD book q 0)) book p kind v → SaidAt book p kind a b v
   said-at lower upper from to taken =
       record {
@@ -143,7 +148,7 @@ module _ (book : List ℕ) (q : ℕ) (is-field : FieldAt book q) (whole : q + 3 
 
   tells-said :
       (v p : ℕ) (bytes : List ℕ) → ((p : ℕ) → TakenAs (tagOf (getD book q 0)) book p Kind.tell v) → q + 3 ≤ p
-      → p + length bytes ≤ after → StandIn book p bytes → Said book p after (tellsFrom v p bytes)
+      → p + length bytes ≤ after → BytesAt book p bytes → Said book p after (tellsFrom v p bytes)
   unfolding tellsFrom
   tells-said v p [] taken from to h = omega arith
   tells-said v p (a ∷ []) taken from to h = omega arith
@@ -160,7 +165,7 @@ module _ (book : List ℕ) (q : ℕ) (is-field : FieldAt book q) (whole : q + 3 
 
   answers-said :
       (p : ℕ) (bytes : List ℕ) → tagOf (getD book q 0) ≡ Tag.answers → q + 3 ≤ p → p + length bytes ≤ after
-      → StandIn book p bytes → Said book p after (answersFrom p bytes)
+      → BytesAt book p bytes → Said book p after (answersFrom p bytes)
   unfolding answersFrom
   answers-said p [] tag from to h = omega arith
   answers-said p (a ∷ []) tag from to h = omega arith
@@ -180,7 +185,7 @@ module _ (book : List ℕ) (q : ℕ) (is-field : FieldAt book q) (whole : q + 3 
 
   contents-said :
       (tag : Tag) (bytes : List ℕ) → tagOf (getD book q 0) ≡ tag → tag ≢ Tag.class-count → length bytes ≡ lengthAt book q
-      → StandIn book (q + 3) bytes → Said book (q + 3) after (contents tag q bytes)
+      → BytesAt book (q + 3) bytes → Said book (q + 3) after (contents tag q bytes)
   contents-said Tag.class-count bytes e other size h = absurd (other refl)
   contents-said Tag.yes-facts bytes e other size h =
       tells-said 1 (q + 3) bytes (λ p. rw e (refl, refl)) (omega arith) (omega arith) h
@@ -227,8 +232,8 @@ field-right first tag len room e =
 
 -- the three head bytes of a field
 head-stands :
-    {book : List ℕ} {at tag hi lo : ℕ} {rest : List ℕ} → StandIn book at (tag ∷ hi ∷ lo ∷ rest)
-    → (tag ≡ getD book at 0) × (hi * 256 + lo ≡ lengthAt book at) × StandIn book (at + 3) rest
+    {book : List ℕ} {at tag hi lo : ℕ} {rest : List ℕ} → BytesAt book at (tag ∷ hi ∷ lo ∷ rest)
+    → (tag ≡ getD book at 0) × (hi * 256 + lo ≡ lengthAt book at) × BytesAt book (at + 3) rest
 head-stands {book} {at} {tag} {hi} {lo} {rest} h =
     let x = stand-tail h in
     let y = stand-tail (x .1) in
@@ -254,7 +259,7 @@ not-count Tag.unknown h e = let z : _≡_ {A = ℕ} 0 1 = cc in omega arith
 
 -- what later fields say
 items-later :
-    (fuel at : ℕ) (book bytes : List ℕ) → FieldAt book at → StandIn book at bytes → Later book at (itemsFrom fuel false at bytes)
+    (fuel at : ℕ) (book bytes : List ℕ) → FieldAt book at → BytesAt book at bytes → Later book at (itemsFrom fuel false at bytes)
 unfolding itemsFrom
 items-later zero at book bytes q h = tt
 items-later (suc fuel) at book [] q h = tt
@@ -281,7 +286,7 @@ items-later (suc fuel) at book (tag ∷ hi ∷ lo ∷ rest) q h =
     len : ℕ
     len = hi * 256 + lo
 
-    known : (tag ≡ getD book at 0) × (len ≡ lengthAt book at) × StandIn book (at + 3) rest
+    known : (tag ≡ getD book at 0) × (len ≡ lengthAt book at) × BytesAt book (at + 3) rest
     known = head-stands h
 
     size : len ≡ lengthAt book at
@@ -328,8 +333,8 @@ items-whole (tag ∷ hi ∷ lo ∷ rest) =
     begins [] e h = absurd (omega arith)
     begins (n ∷ rest) e h =
         let all = tag ∷ hi ∷ lo ∷ n ∷ rest in
-        let here : StandIn all 0 all = record { byte = λ i l. rw (zero-add i) refl; inside = omega arith } in
-        let behind : StandIn all 4 rest = stand-tail (head-stands here .2) .1 in
+        let here : BytesAt all 0 all = record { byte = λ i l. rw (zero-add i) refl; inside = omega arith } in
+        let behind : BytesAt all 4 rest = stand-tail (head-stands here .2) .1 in
         let field : FieldAt all 4 =
         subst (λ (k : ℕ). FieldAt all (0 + 3 + k)) e (FieldAt.behind FieldAt.start (omega arith))
         in

@@ -2,7 +2,7 @@
 -- input.
 -- Assumes nothing.
 use mathlib.Core.Path.{_≡_, refl, sym, _∙_, ap, ap₂}
-use mathlib.Core.Logic.{_≢_, _⊎_, inl, inr}
+use mathlib.Core.Logic.{_↔_, _≢_, _⊎_, inl, inr}
 use mathlib.Core.List.{List, [], _∷_}
 use Prim.Native.Nat.{ℕ, zero, suc, _≤_, _<_}
 use native.Mathlib.Nat.{le-antisymm}
@@ -22,7 +22,7 @@ use Rattle.promise.specs.declared.Wrote.the-variants.{Count, Refused}
 use Rattle.promise.specs.Refusals.{standing}
 use Rattle.promise.specs.Buffers.{numberOf, placeOf, over, TooShort}
 use Rattle.promise.specs.Hierarchy.{Under, Equal, HeadOf, Head, Direct, HeadsOf, StepsOf, StepBytes, hierarchyRefusals, HierarchyIn, HierarchyWritten}
-use Rattle.promise.proofs.Standing.{Stands, standing-passed, standing-there}
+use Rattle.promise.proofs.Standing.{Stands, standing-passed, stands-first, standing-there}
 use Rattle.promise.proofs.Buffers.{over-length, too-short?}
 
 -- one head, one list of heads, one list of steps
@@ -181,6 +181,18 @@ hierarchy-unique {s} {t} {heads} {steps} {r} {r₂} {heads′} {steps′} {heads
     go (Count c) (Refused k p) e z x y = absurd (y .0 (sym e))
     go (Refused k p) (Count c) e z x y = absurd (x .0 e)
     go (Refused k p) (Refused k₂ p₂) e z x y = (ap₂ Refused e z, x .1 ∙ sym (y .1), x .2 ∙ sym (y .2))
+
+-- 7 is given exactly where pairs are counted as open and none of 1 to 4 is due
+pub hierarchy-seven :
+    {s : Session} {t heads steps : List ℕ} {r : Wrote} {heads′ steps′ : List ℕ} → Stands s t
+    → HierarchyWritten s t heads steps r heads′ steps′ → (numberOf r ≡ 7) ↔ (opens (s .classes) t ≢ 0)
+hierarchy-seven {s} {t} {heads} {steps} {r} st h =
+    go (stands-first (hierarchyRefusals s t heads steps) st (h .number))
+  where
+    go : First (hierarchyRefusals s t heads steps) (numberOf r) → (numberOf r ≡ 7) ↔ (opens (s .classes) t ≢ 0)
+    go (inl (some, e)) = (λ _ z. omega arith, λ _. e)
+    go (inr (none, inl (_, e))) = (λ z. absurd (omega arith), λ z. absurd (omega arith))
+    go (inr (none, inr (_, e))) = (λ z. absurd (omega arith), λ z. absurd (omega arith))
 
 -- the lengths of both buffers stay
 pub hierarchy-lengths :

@@ -8,6 +8,7 @@ pub mod Buffers
 pub mod Hierarchy
 pub mod Ladder
 pub mod Book
+pub mod Items
 pub mod Read
 pub mod Write
 pub mod Mantel

@@ -140,6 +140,14 @@ rounds-bounded {k} {s} {s′} {t} {t′} st (Rounds.round {k = j} {a = a} {b = b
     in
     (i .0, i .1 ∙ o .0, omega (arith, le, o .2, one))
 
+-- each round counts one test
+pub rounds-tests :
+    {k : ℕ} {s s′ : Session} {t t′ : List ℕ} → Rounds k s t s′ t′ → s′ .tests ≡ s .tests + k
+rounds-tests Rounds.none = omega arith
+rounds-tests {s = s} {t = t} (Rounds.round {a = a} {b = b} q h later) =
+    let one : adds Kind.answer 0 (mark (s .classes) t a b) ≡ 1 = ap (adds Kind.answer 0) (q .says .is-open) in
+    omega (arith, rounds-tests later, tell-opens h 0 (asked-accepted q h) .1)
+
 -- "So asking and answering the pair asked ends after at most as many answers as there were open pairs": after k rounds next says done,
 -- or k is still below the number of pairs open at the start
 pub rounds-end :

@@ -7,10 +7,10 @@ use Prim.Native.Nat.{ℕ, zero, suc, _+_, _*_, _≤_, _<_}
 use native.Mathlib.Decide.{ℕ-discrete}
 use native.Mathlib.Omega.{arith}
 use lib.ListN.{length}
-use Rattle.order.specs.Facts.{Fact, Facts, Listed, _with_, _and_, _⊆_, Below}
+use Rattle.order.specs.Facts.{Fact, Facts, Listed, _with_, _⊆_, Below}
 use Rattle.order.specs.Tables.{mark, TableOf, SameRest, opens}
 use Rattle.order.specs.Orders.{Impossible, Exact}
-use Rattle.order.proofs.Sets.{entails-subset, with-listed, listed-with}
+use Rattle.order.proofs.Sets.{_and_, entails-subset, with-listed, listed-with}
 use Rattle.order.proofs.Tables.{table-of-equals, settled-stays}
 use Rattle.order.proofs.Bytes.{rest-refl, rest-trans}
 use Rattle.order.proofs.Exactness.{exact}
@@ -18,6 +18,7 @@ use Rattle.promise.specs.declared.Session.{Session}
 use Rattle.promise.specs.declared.Reply.{Reply}
 use Rattle.promise.specs.Tell.{Kind, Took}
 use Rattle.promise.specs.Runs.{StandsFor, Made, Run, FromFresh, unlessRefused, acceptedFacts, testsIn}
+use Rattle.promise.proofs.Standing.{standing-passed}
 use Rattle.promise.proofs.Fresh.{fresh-stands, fresh-there, fresh-accepted}
 use Rattle.promise.proofs.Tell.{tell-there, tell-opens, tell-stands, tell-refused}
 
@@ -82,7 +83,7 @@ run-tests {s} {s′} {t} {t′} (Run.call {m = m} {t₁ = t₁} {r = r} h e run)
     in
     (i .0 ∙ o .0, omega (arith, i .1, o .1), omega (arith, le, o .2))
 
--- "Bytes from n*n on are never read or written."
+-- no byte from n*n on is written, and the length stays
 pub run-rest :
     {s s′ : Session} {t t′ : List ℕ} {calls : List Made} → Run s t calls s′ t′ → SameRest (s .classes) t t′
 run-rest {t = t} Run.stop = rest-refl t
@@ -102,6 +103,12 @@ module _ {n : ℕ} {t : List ℕ} {calls : List Made} {s′ : Session} {t′ : L
   fresh-run-tests =
       let e : h .reply .session .tests ≡ 0 = ap (λ (s : Session). s .tests) (h .began .replies .session (h .accepted)) in
       omega (arith, run-tests (h .run) .1)
+
+  -- "At most n*n-n tests can be counted."
+  pub fresh-run-most : s′ .tests + n ≤ n * n
+  fresh-run-most =
+      subst (λ (k : ℕ). s′ .tests + k ≤ k * k) fresh-run-classes
+      (omega (arith, standing-passed [] (fresh-run-stands h .stands) .0 .count))
 
   pub fresh-run-rest : SameRest n t t′
   fresh-run-rest =

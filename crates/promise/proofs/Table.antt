@@ -11,7 +11,7 @@ use Rattle.promise.specs.declared.Question.{Question}
 use Rattle.promise.specs.declared.Question.the-variants.{Ask, Done}
 use Rattle.promise.specs.declared.Wrote.{Wrote}
 use Rattle.promise.specs.declared.Wrote.the-variants.{Count, Refused}
-use Rattle.promise.specs.Sessions.{noSession, started}
+use Rattle.promise.specs.Sessions.{started}
 use Rattle.promise.specs.Fresh.{Freshened}
 use Rattle.promise.specs.Tell.{Kind, Took}
 use Rattle.promise.specs.Next.{Asked}
@@ -43,7 +43,7 @@ Meets (Row.open-pairs n t k) = opens n t ≡ k
 
 abbrev pub AllMeet : List Row → Type 0
 AllMeet [] = Unit {0}
-AllMeet (row ∷ rows) = Meets row × AllMeet rows
+AllMeet (row ∷ later) = Meets row × AllMeet later
 
 -- accepted, and refused with a number and a place, with the session from then on
 abbrev pub accepted : Session → Reply
@@ -51,6 +51,10 @@ accepted s = record { number = 0; place = 0; session = s }
 
 abbrev pub refused : ℕ → ℕ → Session → Reply
 refused number place s = record { number = number; place = place; session = s }
+
+-- "n 0 and tally 0", written out
+abbrev pub nothing : Session
+nothing = record { classes = 0; tests = 0 }
 
 -- three classes and the tests counted; four classes
 abbrev pub three : ℕ → Session
@@ -97,14 +101,23 @@ abbrev pub nines : ℕ → List ℕ
 nines zero = []
 nines (suc k) = 9 ∷ nines k
 
+-- k fields of tag 2 and length 0 before the rest of a book
+abbrev pub emptyFields : ℕ → List ℕ → List ℕ
+emptyFields zero rest = rest
+emptyFields (suc k) rest = 2 ∷ 0 ∷ 0 ∷ emptyFields k rest
+
+-- two classes with one pair open
+abbrev pub oneOpen : List ℕ
+oneOpen = 1 ∷ 2 ∷ 0 ∷ 1 ∷ []
+
 -- P12: P8's table as a book
 abbrev pub p12 : List ℕ
 p12 =
     1 ∷ 0 ∷ 1 ∷ 3 ∷ 2 ∷ 0 ∷ 8 ∷ 0 ∷ 1 ∷ 0 ∷ 2 ∷ 1 ∷ 2 ∷ 2 ∷ 1 ∷ 3
     ∷ 0 ∷ 4 ∷ 1 ∷ 0 ∷ 2 ∷ 0 ∷ []
 
-abbrev pub marks : List Row
-marks =
+abbrev pub rows : List Row
+rows =
     -- P1
     Row.fresh 1 (nines 2) (accepted (started 1)) (1 ∷ 9 ∷ [])
     ∷ Row.next (started 1) (1 ∷ 9 ∷ []) Done
@@ -148,9 +161,9 @@ marks =
     ∷ Row.took Kind.answer (three 0) p7 (under 2 1) (accepted (three 1)) p8
     ∷ Row.took Kind.answer (three 1) p8 (under 0 2) (accepted (three 1)) p8
     -- class counts and tables
-    ∷ Row.fresh 0 (nines 1) (refused 1 0 noSession) (nines 1)
-    ∷ Row.fresh 129 (nines 1) (refused 1 0 noSession) (nines 1)
-    ∷ Row.fresh 3 (nines 8) (refused 2 0 noSession) (nines 8)
+    ∷ Row.fresh 0 (nines 1) (refused 1 0 nothing) (nines 1)
+    ∷ Row.fresh 129 (nines 1) (refused 1 0 nothing) (nines 1)
+    ∷ Row.fresh 3 (nines 8) (refused 2 0 nothing) (nines 8)
     ∷ Row.next (started 0) [] (Question.Refused 1 0)
     ∷ Row.next (three 0) (nines 8) (Question.Refused 2 0)
     ∷ Row.next (three 0) (1 ∷ 1 ∷ 0 ∷ 0 ∷ 1 ∷ 1 ∷ 0 ∷ 0 ∷ 1 ∷ []) (Question.Refused 3 0)
@@ -174,19 +187,19 @@ marks =
     ∷ Row.open-pairs 3 printed 2
     ∷ Row.next (three 0) printed (Ask 1 0)
     -- books refused at their first field
-    ∷ Row.read [] (nines 9) (refused 12 0 noSession) (nines 9)
-    ∷ Row.read (1 ∷ 0 ∷ []) (nines 9) (refused 10 0 noSession) (nines 9)
-    ∷ Row.read (7 ∷ []) (nines 9) (refused 10 0 noSession) (nines 9)
-    ∷ Row.read (7 ∷ 0 ∷ 0 ∷ []) (nines 9) (refused 11 0 noSession) (nines 9)
-    ∷ Row.read (2 ∷ 0 ∷ 0 ∷ []) (nines 9) (refused 12 0 noSession) (nines 9)
-    ∷ Row.read (2 ∷ 0 ∷ 3 ∷ []) (nines 9) (refused 12 0 noSession) (nines 9)
-    ∷ Row.read (1 ∷ 0 ∷ 2 ∷ 3 ∷ 3 ∷ []) (nines 9) (refused 13 0 noSession) (nines 9)
-    ∷ Row.read (1 ∷ 0 ∷ 5 ∷ []) (nines 9) (refused 13 0 noSession) (nines 9)
-    ∷ Row.read (1 ∷ 0 ∷ 0 ∷ []) (nines 9) (refused 13 0 noSession) (nines 9)
-    ∷ Row.read (1 ∷ 0 ∷ 1 ∷ []) (nines 9) (refused 10 0 noSession) (nines 9)
-    ∷ Row.read (1 ∷ 0 ∷ 1 ∷ 0 ∷ []) (nines 9) (refused 1 0 noSession) (nines 9)
-    ∷ Row.read (1 ∷ 0 ∷ 1 ∷ 129 ∷ []) (nines 9) (refused 1 0 noSession) (nines 9)
-    ∷ Row.read (1 ∷ 0 ∷ 1 ∷ 3 ∷ []) (nines 8) (refused 2 0 noSession) (nines 8)
+    ∷ Row.read [] (nines 9) (refused 12 0 nothing) (nines 9)
+    ∷ Row.read (1 ∷ 0 ∷ []) (nines 9) (refused 10 0 nothing) (nines 9)
+    ∷ Row.read (7 ∷ []) (nines 9) (refused 10 0 nothing) (nines 9)
+    ∷ Row.read (7 ∷ 0 ∷ 0 ∷ []) (nines 9) (refused 11 0 nothing) (nines 9)
+    ∷ Row.read (2 ∷ 0 ∷ 0 ∷ []) (nines 9) (refused 12 0 nothing) (nines 9)
+    ∷ Row.read (2 ∷ 0 ∷ 3 ∷ []) (nines 9) (refused 12 0 nothing) (nines 9)
+    ∷ Row.read (1 ∷ 0 ∷ 2 ∷ 3 ∷ 3 ∷ []) (nines 9) (refused 13 0 nothing) (nines 9)
+    ∷ Row.read (1 ∷ 0 ∷ 5 ∷ []) (nines 9) (refused 13 0 nothing) (nines 9)
+    ∷ Row.read (1 ∷ 0 ∷ 0 ∷ []) (nines 9) (refused 13 0 nothing) (nines 9)
+    ∷ Row.read (1 ∷ 0 ∷ 1 ∷ []) (nines 9) (refused 10 0 nothing) (nines 9)
+    ∷ Row.read (1 ∷ 0 ∷ 1 ∷ 0 ∷ []) (nines 9) (refused 1 0 nothing) (nines 9)
+    ∷ Row.read (1 ∷ 0 ∷ 1 ∷ 129 ∷ []) (nines 9) (refused 1 0 nothing) (nines 9)
+    ∷ Row.read (1 ∷ 0 ∷ 1 ∷ 3 ∷ []) (nines 8) (refused 2 0 nothing) (nines 8)
     -- books refused later: what was read before the place stays
     ∷ Row.read (1 ∷ 0 ∷ 1 ∷ 3 ∷ []) (nines 9) (accepted (three 0)) p2
     ∷ Row.read (1 ∷ 0 ∷ 1 ∷ 3 ∷ 1 ∷ []) (nines 9) (refused 10 4 (three 0)) p2
@@ -200,4 +213,23 @@ marks =
     ∷ Row.read (1 ∷ 0 ∷ 1 ∷ 3 ∷ 4 ∷ 0 ∷ 6 ∷ 3 ∷ 0 ∷ 1 ∷ 0 ∷ 1 ∷ 2 ∷ []) (nines 9) (refused 5 7 (three 0)) p2
     ∷ Row.read (1 ∷ 0 ∷ 1 ∷ 3 ∷ 4 ∷ 0 ∷ 6 ∷ 0 ∷ 1 ∷ 0 ∷ 0 ∷ 1 ∷ 2 ∷ []) (nines 9) (refused 14 10 (three 1)) afterNo
     ∷ Row.read (1 ∷ 0 ∷ 1 ∷ 3 ∷ 3 ∷ 0 ∷ 2 ∷ 0 ∷ 1 ∷ 2 ∷ 0 ∷ 2 ∷ 0 ∷ 1 ∷ []) (nines 9) (refused 6 12 (three 0)) afterNo
+    -- tags that are none, lengths of each tag, a field after many
+    ∷ Row.read (0 ∷ 0 ∷ 0 ∷ []) (nines 9) (refused 11 0 nothing) (nines 9)
+    ∷ Row.read (1 ∷ 0 ∷ 1 ∷ 3 ∷ 0 ∷ 0 ∷ 0 ∷ []) (nines 9) (refused 11 4 (three 0)) p2
+    ∷ Row.read (1 ∷ 0 ∷ 1 ∷ 3 ∷ 5 ∷ 0 ∷ 0 ∷ []) (nines 9) (refused 11 4 (three 0)) p2
+    ∷ Row.read (1 ∷ 0 ∷ 1 ∷ 3 ∷ 2 ∷ 0 ∷ []) (nines 9) (refused 10 4 (three 0)) p2
+    ∷ Row.read (1 ∷ 0 ∷ 1 ∷ 3 ∷ 3 ∷ 0 ∷ 1 ∷ 0 ∷ []) (nines 9) (refused 13 4 (three 0)) p2
+    ∷ Row.read (1 ∷ 0 ∷ 1 ∷ 3 ∷ 4 ∷ 0 ∷ 0 ∷ []) (nines 9) (accepted (three 0)) p2
+    ∷ Row.read (1 ∷ 0 ∷ 1 ∷ 3 ∷ 4 ∷ 0 ∷ 9 ∷ 0 ∷ 1 ∷ 1 ∷ 0 ∷ 2 ∷ 0 ∷ 1 ∷ 1 ∷ 1 ∷ []) (nines 9) (accepted (three 2)) p4
+    ∷ Row.read (1 ∷ 0 ∷ 1 ∷ 1 ∷ emptyFields 21 (9 ∷ 0 ∷ 0 ∷ [])) (nines 1) (refused 11 67 (started 1)) (1 ∷ [])
+    -- the order of refusals outside books, and sessions given back
+    ∷ Row.took Kind.tell (record { classes = 129; tests = 5 }) [] (under 0 0) (refused 1 0 (record { classes = 129; tests = 5 })) []
+    ∷ Row.next (three 7) (1 ∷ 1 ∷ 0 ∷ 0 ∷ 1 ∷ 1 ∷ 0 ∷ 0 ∷ 1 ∷ []) (Question.Refused 3 0)
+    ∷ Row.took Kind.tell (three 1) p2 (under 0 3) (refused 4 0 (three 1)) p2
+    ∷ Row.took Kind.tell (three 0) p2 (under 3 0) (refused 5 0 (three 0)) p2
+    ∷ Row.took Kind.answer (three 0) p4 (under 1 2) (refused 6 0 (three 0)) p4
+    ∷ Row.took Kind.answer (three 0) p3 (under 0 1) (accepted (three 1)) p4
+    ∷ Row.hierarchy (started 2) oneOpen (nines 2) (nines 2) (Refused 7 0) (nines 2) (nines 2)
+    ∷ Row.ladder (started 2) oneOpen 0 0 (nines 2) (Refused 7 0) (nines 2)
+    ∷ Row.ladder four p11 0 2 (nines 2) (Count 2) (0 ∷ 2 ∷ [])
     ∷ []

@@ -121,7 +121,7 @@ agreeing-unchanged {kind} {s} {t} {f} {r} {t′} st m h = tell-unique h same
               };
         }
 
--- what an accepted fact counts, and what stays open, is no more than was open
+-- the class count stays, the tally grows by what the call adds, and that and what stays open is no more than was open
 pub tell-opens :
     {kind : Kind} {s : Session} {t : List ℕ} {f : Fact} {r : Reply} {t′ : List ℕ} → Took kind s t f r t′
     → (k : ℕ) → r .number ≡ k
@@ -180,7 +180,7 @@ tell-stands {kind} {S} {s} {t} {f} {r} {t′} st h e =
     classes : r .session .classes ≡ s .classes
     classes = tell-opens h 0 e .0
 
--- the refusals of a fact where the table stands: 5, or 6 exactly where no order agrees with it and the facts before
+-- the refusals of a fact where none of 1 to 4 is due
 pub tell-numbers :
     {kind : Kind} {s : Session} {t : List ℕ} {f : Fact} {r : Reply} {t′ : List ℕ} → Stands s t → Took kind s t f r t′
     → (r .number ≡ 0) ⊎ (r .number ≡ 5) ⊎ (r .number ≡ 6)

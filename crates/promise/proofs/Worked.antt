@@ -21,7 +21,7 @@ use Rattle.promise.proofs.Hierarchy.{under?, equal?, head-of?, head?, t
 use Rattle.promise.proofs.Ladder.{number-there, above?, to-go, between, direct-there, rung-there, rungs-there, ladder-there, ladder-made, ladder-written-there}
 use Rattle.promise.proofs.Read.{passes-there, follows-there, read-there}
 use Rattle.promise.proofs.Write.{off?, book-there, write-there}
-use Rattle.promise.proofs.Table.{Row, Meets, AllMeet, marks}
+use Rattle.promise.proofs.Table.{Row, Meets, AllMeet, rows}
 
 -- the row with what is there for its call
 abbrev answered : Row → Row
@@ -38,7 +38,7 @@ answered (Row.open-pairs n t k) = Row.open-pairs n t (opens n t)
 
 abbrev allAnswered : List Row → List Row
 allAnswered [] = []
-allAnswered (row ∷ rows) = answered row ∷ allAnswered rows
+allAnswered (row ∷ later) = answered row ∷ allAnswered later
 
 meets : (row : Row) → Meets (answered row)
 meets (Row.fresh n t r t′) = fresh-there n t .2
@@ -50,30 +50,30 @@ meets (Row.read book t r t′) = read-there book t .2
 meets (Row.write s t out r out′) = write-there s t out .2
 meets (Row.open-pairs n t k) = refl
 
-all-meet : (rows : List Row) → AllMeet (allAnswered rows)
+all-meet : (l : List Row) → AllMeet (allAnswered l)
 all-meet [] = tt
-all-meet (row ∷ rows) = (meets row, all-meet rows)
+all-meet (row ∷ later) = (meets row, all-meet later)
 
 -- what is there, computed, is the table itself
-computed : allAnswered marks ≡ marks
+computed : allAnswered rows ≡ rows
 unfolding mark opensTo decLt decLe ℕ-discrete both either implies negated as-well all-below some-below all-pairs least least-from stage is sound? transitive? pruned? yes-after-yes? no-after-yes? no-after-no? rowTo rowsTo standing-there replies-there fresh-there tell-there next-there first-of under? equal? head-of? head? third? direct? head-there list-there heads-there too-short? hierarchy-there number-there above? to-go between direct-there rung-there rungs-there ladder-there ladder-made writes-there ladder-written-there fieldFault tellsFrom answersFrom itemsFrom passes-there follows-there read-there off? book-there write-there
 computed = refl
 
--- P1 to P12, and the other worked marks, from the definitions
-pub marks-met : AllMeet marks
-marks-met = subst AllMeet computed (all-meet marks)
+-- P1 to P12, and the other worked marks that say something of the definitions
+pub rows-met : AllMeet rows
+rows-met = subst AllMeet computed (all-meet rows)
 
 -- one row of the table, by its number from 0
 abbrev pub rowAt : List Row → ℕ → Row
 rowAt [] k = Row.open-pairs 0 [] 0
-rowAt (row ∷ rows) zero = row
-rowAt (row ∷ rows) (suc k) = rowAt rows k
+rowAt (row ∷ later) zero = row
+rowAt (row ∷ later) (suc k) = rowAt later k
 
-met-in : (rows : List Row) (k : ℕ) → AllMeet rows → Meets (rowAt rows k)
+met-in : (l : List Row) (k : ℕ) → AllMeet l → Meets (rowAt l k)
 unfolding opensTo
 met-in [] k h = refl
-met-in (row ∷ rows) zero h = h .0
-met-in (row ∷ rows) (suc k) h = met-in rows k (h .1)
+met-in (row ∷ later) zero h = h .0
+met-in (row ∷ later) (suc k) h = met-in later k (h .1)
 
-pub met-at : (k : ℕ) → Meets (rowAt marks k)
-met-at k = met-in marks k marks-met
+pub met-at : (k : ℕ) → Meets (rowAt rows k)
+met-at k = met-in rows k rows-met

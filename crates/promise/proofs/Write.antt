@@ -12,14 +12,14 @@ use native.Mathlib.Omega.{arith}
 use lib.Dec.{T, ltb, ltb→lt, not-T}
 use lib.ListN.{length, take, drop, length-append}
 use lib.Seq.{take-at, drop-at}
-use Rattle.order.specs.Facts.{Fact, Facts, under, notUnder, _with_, _and_, _⊆_, Listed, Within, Chain}
+use Rattle.order.specs.Facts.{Fact, Facts, under, notUnder, _with_, _⊆_, Listed, Within, Chain}
 use Rattle.order.specs.Tables.{mark, Sound, Marks, SameMarks, TableOf, markFor}
 use Rattle.order.specs.Orders.{Impossible}
 use Rattle.order.specs.Pairs.{Pair, bytesOf}
 use Rattle.order.specs.Refusals.{First}
 use Rattle.order.proofs.Decide.{both, negated}
 use Rattle.order.proofs.Refusals.{stage}
-use Rattle.order.proofs.Sets.{Settled, Follows as Entailed, entails-subset, follows-one, with-listed, listed-with}
+use Rattle.order.proofs.Sets.{_and_, Settled, Follows as Entailed, entails-subset, follows-one, with-listed, listed-with}
 use Rattle.order.proofs.Tables.{which, verdict-of, marks-within, sound-table, table-unique, table-of-equals}
 use Rattle.order.proofs.Exactness.{table-possible}
 use Rattle.order.proofs.Pairs.{lists-unique, lists-map, pairsOf, pairs-listed, length-bytes}

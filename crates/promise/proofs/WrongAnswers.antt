@@ -15,7 +15,7 @@ use Rattle.promise.specs.declared.Question.{Question}
 use Rattle.promise.specs.declared.Question.the-variants.{Ask, Done}
 use Rattle.promise.specs.declared.Wrote.{Wrote}
 use Rattle.promise.specs.declared.Wrote.the-variants.{Count, Refused}
-use Rattle.promise.specs.Sessions.{noSession, started}
+use Rattle.promise.specs.Sessions.{started}
 use Rattle.promise.specs.Fresh.{Freshened}
 use Rattle.promise.specs.Tell.{Kind, Took}
 use Rattle.promise.specs.Next.{numberOf, Asked}
@@ -31,30 +31,30 @@ use Rattle.promise.proofs.Hierarchy.{hierarchy-unique}
 use Rattle.promise.proofs.Ladder.{ladder-written-unique}
 use Rattle.promise.proofs.Read.{read-unique}
 use Rattle.promise.proofs.Write.{write-unique}
-use Rattle.promise.proofs.Table.{p2, p3, p4, p7, p8, p11, p12, three, four, accepted, refused, nines}
+use Rattle.promise.proofs.Table.{p2, p3, p4, p7, p8, p11, p12, three, four, accepted, refused, nines, nothing}
 use Rattle.promise.proofs.Worked.{met-at}
 
--- A call: what goes in, what comes out, what is owed, and that this fixes the outcome.
-pub record Call : Type 1 where
+-- A contract: what goes in, what comes out, what is owed, and that this fixes the outcome.
+pub record Contract : Type 1 where
   pub Input : Type 0
   pub Output : Type 0
   pub Owes : Input → Output → Type 0
   pub only : (i : Input) (o o₂ : Output) → Owes i o → Owes i o₂ → o ≡ o₂
 
 -- a program that meets what the call owes on every input
-pub record Program (c : Call) : Type 0 where
+pub record Program (c : Contract) : Type 0 where
   pub run : c .Input → c .Output
   pub meets : (i : c .Input) → c .Owes i (run i)
 
 -- where a property fails at one outcome that is owed, no program has it everywhere
 never :
-    (c : Call) (Q : c .Input → c .Output → Type 0) (i : c .Input) (o : c .Output) → c .Owes i o → ¬ Q i o
+    (c : Contract) (Q : c .Input → c .Output → Type 0) (i : c .Input) (o : c .Output) → c .Owes i o → ¬ Q i o
     → (p : Program c) → ¬ ((i : c .Input) → Q i (p .run i))
 never c Q i o owed fails p all =
     fails (subst (Q i) (c .only i (p .run i) o (p .meets i) owed) (all i))
 
 -- No program refuses everything, gives a constant answer, or is idle.
-pub record Rejected (c : Call) (number : c .Output → ℕ) {A : Type 0} (answer : c .Output → A) (Idle : c .Input → c .Output → Type 0)
+pub record Rejected (c : Contract) (number : c .Output → ℕ) {A : Type 0} (answer : c .Output → A) (Idle : c .Input → c .Output → Type 0)
     : Type 0 where
   pub refuses-all : (p : Program c) → ¬ ((i : c .Input) → number (p .run i) ≢ 0)
   pub constant : (p : Program c) (a : A) → ¬ ((i : c .Input) → answer (p .run i) ≡ a)
@@ -62,7 +62,7 @@ pub record Rejected (c : Call) (number : c .Output → ℕ) {A : Type 0} (answer
 
 -- one outcome that is accepted and not idle, and another with another answer, show it
 rejected :
-    (c : Call) (number : c .Output → ℕ) {A : Type 0} (answer : c .Output → A) (Idle : c .Input → c .Output → Type 0)
+    (c : Contract) (number : c .Output → ℕ) {A : Type 0} (answer : c .Output → A) (Idle : c .Input → c .Output → Type 0)
     (i j : c .Input) (o o₂ : c .Output) → c .Owes i o → number o ≡ 0 → ¬ Idle i o → c .Owes j o₂ → answer o ≢ answer o₂
     → Rejected c number answer Idle
 rejected c number {A} answer Idle i j o o₂ owed fine busy owed₂ differ =
@@ -86,8 +86,8 @@ other-byte ne e = ne (ap (λ (l : List ℕ). getD l 0 0) e)
 
 -- fresh
 
-abbrev pub freshCall : Call
-freshCall =
+abbrev pub freshContract : Contract
+freshContract =
     record {
       Input = ℕ × List ℕ;
       Output = Reply × List ℕ;
@@ -95,16 +95,16 @@ freshCall =
       only = λ i o o₂ h h₂. pair-same (fresh-unique h h₂);
     }
 
-pub fresh-rejects : Rejected freshCall (λ o. o .0 .number) (λ o. o .0) (λ i o. o .1 ≡ i .1)
+pub fresh-rejects : Rejected freshContract (λ o. o .0 .number) (λ o. o .0) (λ i o. o .1 ≡ i .1)
 fresh-rejects =
-    rejected freshCall (λ o. o .0 .number) (λ o. o .0) (λ i o. o .1 ≡ i .1) (1, nines 2) (0, nines 1)
-    (accepted (started 1), 1 ∷ 9 ∷ []) (refused 1 0 noSession, nines 1) (met-at 0) refl (other-byte (λ z. omega arith))
+    rejected freshContract (λ o. o .0 .number) (λ o. o .0) (λ i o. o .1 ≡ i .1) (1, nines 2) (0, nines 1)
+    (accepted (started 1), 1 ∷ 9 ∷ []) (refused 1 0 nothing, nines 1) (met-at 0) refl (other-byte (λ z. omega arith))
     (met-at 29) (λ e. omega (arith, ap (λ (r : Reply). r .number) e))
 
 -- tell and answer
 
-abbrev pub tellCall : Kind → Call
-tellCall kind =
+abbrev pub tellContract : Kind → Contract
+tellContract kind =
     record {
       Input = Session × List ℕ × Fact;
       Output = Reply × List ℕ;
@@ -113,9 +113,9 @@ tellCall kind =
     }
 
 -- at P4 and P5
-pub tell-rejects : Rejected (tellCall Kind.tell) (λ o. o .0 .number) (λ o. o .0) (λ i o. o .1 ≡ i .1)
+pub tell-rejects : Rejected (tellContract Kind.tell) (λ o. o .0 .number) (λ o. o .0) (λ i o. o .1 ≡ i .1)
 tell-rejects =
-    rejected (tellCall Kind.tell) (λ o. o .0 .number) (λ o. o .0) (λ i o. o .1 ≡ i .1) (three 0, p3, under 0 1)
+    rejected (tellContract Kind.tell) (λ o. o .0 .number) (λ o. o .0) (λ i o. o .1 ≡ i .1) (three 0, p3, under 0 1)
     (three 0, p4, under 1 2) (accepted (three 0), p4) (refused 6 0 (three 0), p4) (met-at 7) refl
     (λ e. omega (arith, ap (λ (l : List ℕ). getD l 1 0) e)) (met-at 9)
     (λ e. omega (arith, ap (λ (r : Reply). r .number) e))
@@ -126,28 +126,60 @@ MerelyStores i o =
     ¬ Fresh (i .0 .classes) (i .1) → o .0 .number ≡ 0
     → o .1 ≡ set (i .1) (i .2 .lower * i .0 .classes + i .2 .upper) (markFor (i .2 .holds))
 
--- at P4: the mark of (1, 2) becomes no
-pub tell-not-stores :
-    (p : Program (tellCall Kind.tell)) → ¬ ((i : Session × List ℕ × Fact) → MerelyStores i (p .run i))
+not-fresh : ¬ Fresh 3 p3
 unfolding mark
+not-fresh h = omega (arith, h .elsewhere 0 2 (omega arith) (omega arith) (λ z. omega arith))
+
+-- at P4: the mark of (1, 2) becomes no
+not-stored : (r : Reply) → r .number ≡ 0 → ¬ MerelyStores (three 0, p3, under 0 1) (r, p4)
+not-stored r e stores = omega (arith, ap (λ (l : List ℕ). getD l 5 0) (stores not-fresh e))
+
+pub tell-not-stores :
+    (p : Program (tellContract Kind.tell)) → ¬ ((i : Session × List ℕ × Fact) → MerelyStores i (p .run i))
 tell-not-stores =
-    never (tellCall Kind.tell) MerelyStores (three 0, p3, under 0 1) (accepted (three 0), p4) (met-at 7) (λ stores.
-    omega (arith, ap (λ (l : List ℕ). getD l 5 0) (stores not-fresh refl)))
-  where
-    not-fresh : ¬ Fresh 3 p3
-    not-fresh h = omega (arith, h .elsewhere 0 2 (omega arith) (omega arith) (λ z. omega arith))
+    never (tellContract Kind.tell) MerelyStores (three 0, p3, under 0 1) (accepted (three 0), p4) (met-at 7)
+    (not-stored (accepted (three 0)) refl)
+
+pub answer-not-stores :
+    (p : Program (tellContract Kind.answer)) → ¬ ((i : Session × List ℕ × Fact) → MerelyStores i (p .run i))
+answer-not-stores =
+    never (tellContract Kind.answer) MerelyStores (three 0, p3, under 0 1) (accepted (three 1), p4) (met-at 90)
+    (not-stored (accepted (three 1)) refl)
 
 -- an answer on an open pair, and one on a settled pair: the tally is no constant, 0 or any other
-pub answer-rejects : Rejected (tellCall Kind.answer) (λ o. o .0 .number) (λ o. o .0 .session .tests) (λ i o. o .1 ≡ i .1)
+pub answer-rejects :
+    Rejected (tellContract Kind.answer) (λ o. o .0 .number) (λ o. o .0 .session .tests) (λ i o. o .1 ≡ i .1)
 answer-rejects =
-    rejected (tellCall Kind.answer) (λ o. o .0 .number) (λ o. o .0 .session .tests) (λ i o. o .1 ≡ i .1)
+    rejected (tellContract Kind.answer) (λ o. o .0 .number) (λ o. o .0 .session .tests) (λ i o. o .1 ≡ i .1)
     (three 0, p7, under 2 1) (three 0, p2, under 1 1) (accepted (three 1), p8) (accepted (three 0), p2) (met-at 27) refl
     (λ e. omega (arith, ap (λ (l : List ℕ). getD l 3 0) e)) (met-at 20) (λ e. omega arith)
 
+-- an answer that never counts, one that counts every accepted fact, one that counts refused ones
+pub answer-counts :
+    (p : Program (tellContract Kind.answer))
+    → ¬ ((i : Session × List ℕ × Fact) → p .run i .0 .session .tests ≡ i .0 .tests)
+answer-counts =
+    never (tellContract Kind.answer) (λ i o. o .0 .session .tests ≡ i .0 .tests) (three 0, p7, under 2 1)
+    (accepted (three 1), p8) (met-at 27) (λ e. omega arith)
+
+pub answer-counts-open :
+    (p : Program (tellContract Kind.answer))
+    → ¬ ((i : Session × List ℕ × Fact) → p .run i .0 .number ≡ 0 → p .run i .0 .session .tests ≡ i .0 .tests + 1)
+answer-counts-open =
+    never (tellContract Kind.answer) (λ i o. o .0 .number ≡ 0 → o .0 .session .tests ≡ i .0 .tests + 1)
+    (three 0, p2, under 1 1) (accepted (three 0), p2) (met-at 20) (λ e. omega (arith, e refl))
+
+pub answer-counts-accepted :
+    (p : Program (tellContract Kind.answer))
+    → ¬ ((i : Session × List ℕ × Fact) → p .run i .0 .number ≡ 6 → p .run i .0 .session .tests ≡ i .0 .tests + 1)
+answer-counts-accepted =
+    never (tellContract Kind.answer) (λ i o. o .0 .number ≡ 6 → o .0 .session .tests ≡ i .0 .tests + 1)
+    (three 0, p4, under 1 2) (refused 6 0 (three 0), p4) (met-at 89) (λ e. omega (arith, e refl))
+
 -- next: one that always says done is idle
 
-abbrev pub nextCall : Call
-nextCall =
+abbrev pub nextContract : Contract
+nextContract =
     record {
       Input = Session × List ℕ;
       Output = Question;
@@ -155,9 +187,9 @@ nextCall =
       only = λ i q q₂ h h₂. next-unique h h₂;
     }
 
-pub next-rejects : Rejected nextCall numberOf (λ q. q) (λ i q. q ≡ Done)
+pub next-rejects : Rejected nextContract numberOf (λ q. q) (λ i q. q ≡ Done)
 next-rejects =
-    rejected nextCall numberOf (λ q. q) (λ i q. q ≡ Done) (three 0, p2) (three 0, p8) (Ask 0 1) Done (met-at 4) refl asks
+    rejected nextContract numberOf (λ q. q) (λ i q. q ≡ Done) (three 0, p2) (three 0, p8) (Ask 0 1) Done (met-at 4) refl asks
     (met-at 17) asks
   where
     asks : Ask 0 1 ≢ Done
@@ -165,8 +197,8 @@ next-rejects =
 
 -- hierarchy
 
-abbrev pub hierarchyCall : Call
-hierarchyCall =
+abbrev pub hierarchyContract : Contract
+hierarchyContract =
     record {
       Input = Session × List ℕ × List ℕ × List ℕ;
       Output = Wrote × (List ℕ × List ℕ);
@@ -175,9 +207,9 @@ hierarchyCall =
     }
 
 pub hierarchy-rejects :
-    Rejected hierarchyCall (λ o. countNumber (o .0)) (λ o. o .0) (λ i o. (o .1 .0 ≡ i .2) ⊎ (o .1 .1 ≡ i .3))
+    Rejected hierarchyContract (λ o. countNumber (o .0)) (λ o. o .0) (λ i o. (o .1 .0 ≡ i .2) ⊎ (o .1 .1 ≡ i .3))
 hierarchy-rejects =
-    rejected hierarchyCall (λ o. countNumber (o .0)) (λ o. o .0) (λ i o. (o .1 .0 ≡ i .2) ⊎ (o .1 .1 ≡ i .3))
+    rejected hierarchyContract (λ o. countNumber (o .0)) (λ o. o .0) (λ i o. (o .1 .0 ≡ i .2) ⊎ (o .1 .1 ≡ i .3))
     (three 0, p8, nines 4, nines 3) (four, p11, nines 4, nines 7)
     (Count 1, (0 ∷ 1 ∷ 1 ∷ 9 ∷ [], 0 ∷ 1 ∷ 9 ∷ [])) (Refused 8 0, (nines 4, nines 7)) (met-at 18) refl
     (⊎-elim (other-byte (λ z. omega arith)) (other-byte (λ z. omega arith))) (met-at 39)
@@ -185,8 +217,8 @@ hierarchy-rejects =
 
 -- ladder
 
-abbrev pub ladderCall : Call
-ladderCall =
+abbrev pub ladderContract : Contract
+ladderContract =
     record {
       Input = Session × List ℕ × ℕ × ℕ × List ℕ;
       Output = Wrote × List ℕ;
@@ -194,16 +226,16 @@ ladderCall =
       only = λ i o o₂ h h₂. pair-same (ladder-written-unique (i .0) (i .1) (i .2) (i .3) (i .4) h h₂);
     }
 
-pub ladder-rejects : Rejected ladderCall (λ o. countNumber (o .0)) (λ o. o .0) (λ i o. o .1 ≡ i .4)
+pub ladder-rejects : Rejected ladderContract (λ o. countNumber (o .0)) (λ o. o .0) (λ i o. o .1 ≡ i .4)
 ladder-rejects =
-    rejected ladderCall (λ o. countNumber (o .0)) (λ o. o .0) (λ i o. o .1 ≡ i .4) (four, p11, 0, 3, nines 3)
+    rejected ladderContract (λ o. countNumber (o .0)) (λ o. o .0) (λ i o. o .1 ≡ i .4) (four, p11, 0, 3, nines 3)
     (four, p11, 1, 2, nines 3) (Count 3, 0 ∷ 1 ∷ 3 ∷ []) (Refused 9 0, nines 3) (met-at 23) refl
     (other-byte (λ z. omega arith)) (met-at 24) (λ e. omega (arith, ap countNumber e))
 
 -- read
 
-abbrev pub readCall : Call
-readCall =
+abbrev pub readContract : Contract
+readContract =
     record {
       Input = List ℕ × List ℕ;
       Output = Reply × List ℕ;
@@ -211,16 +243,16 @@ readCall =
       only = λ i o o₂ h h₂. pair-same (read-unique h h₂);
     }
 
-pub read-rejects : Rejected readCall (λ o. o .0 .number) (λ o. o .0) (λ i o. o .1 ≡ i .1)
+pub read-rejects : Rejected readContract (λ o. o .0 .number) (λ o. o .0) (λ i o. o .1 ≡ i .1)
 read-rejects =
-    rejected readCall (λ o. o .0 .number) (λ o. o .0) (λ i o. o .1 ≡ i .1) (p12, nines 9) ([], nines 9)
-    (accepted (three 0), p8) (refused 12 0 noSession, nines 9) (met-at 26) refl (other-byte (λ z. omega arith))
+    rejected readContract (λ o. o .0 .number) (λ o. o .0) (λ i o. o .1 ≡ i .1) (p12, nines 9) ([], nines 9)
+    (accepted (three 0), p8) (refused 12 0 nothing, nines 9) (met-at 26) refl (other-byte (λ z. omega arith))
     (met-at 52) (λ e. omega (arith, ap (λ (r : Reply). r .number) e))
 
 -- write
 
-abbrev pub writeCall : Call
-writeCall =
+abbrev pub writeContract : Contract
+writeContract =
     record {
       Input = Session × List ℕ × List ℕ;
       Output = Wrote × List ℕ;
@@ -228,8 +260,15 @@ writeCall =
       only = λ i o o₂ h h₂. pair-same (write-unique (i .0) (i .1) (i .2) h h₂);
     }
 
-pub write-rejects : Rejected writeCall (λ o. countNumber (o .0)) (λ o. o .0) (λ i o. o .1 ≡ i .2)
+pub write-rejects : Rejected writeContract (λ o. countNumber (o .0)) (λ o. o .0) (λ i o. o .1 ≡ i .2)
 write-rejects =
-    rejected writeCall (λ o. countNumber (o .0)) (λ o. o .0) (λ i o. o .1 ≡ i .2) (three 0, p8, nines 22)
+    rejected writeContract (λ o. countNumber (o .0)) (λ o. o .0) (λ i o. o .1 ≡ i .2) (three 0, p8, nines 22)
     (three 0, p8, nines 21) (Count 22, p12) (Refused 8 0, nines 21) (met-at 25) refl (other-byte (λ z. omega arith))
     (met-at 46) (λ e. omega (arith, ap countNumber e))
+
+-- a reading that keeps the tally at 0, at 01's printed example
+pub read-counts : (p : Program readContract) → ¬ ((i : List ℕ × List ℕ) → p .run i .0 .session .tests ≡ 0)
+read-counts =
+    never readContract (λ i o. o .0 .session .tests ≡ 0)
+    (1 ∷ 0 ∷ 1 ∷ 3 ∷ 2 ∷ 0 ∷ 6 ∷ 0 ∷ 1 ∷ 1 ∷ 2 ∷ 2 ∷ 1 ∷ 4 ∷ 0 ∷ 3 ∷ 1 ∷ 0 ∷ 0 ∷ [], nines 9)
+    (accepted (three 1), p8) (met-at 48) (λ e. omega arith)

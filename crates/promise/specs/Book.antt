@@ -39,37 +39,37 @@ isMisplaced first Tag.no-facts = first
 isMisplaced first Tag.answers = first
 isMisplaced first Tag.unknown = first
 
--- the lengths that a tag allows: 1, even, even, a multiple of 3
+-- the lengths that a tag allows: 1, even, even, a multiple of 3; an unknown tag is a fault before its length is
 abbrev pub allows : Tag → ℕ → Bool
 allows Tag.class-count len = eqb len 1
 allows Tag.yes-facts len = eqb (len % 2) 0
 allows Tag.no-facts len = eqb (len % 2) 0
 allows Tag.answers len = eqb (len % 3) 0
-allows Tag.unknown len = false
+allows Tag.unknown len = true
 
--- a refusal number, and a test for it
-pub record Test : Type 0 where
+-- a fault: its refusal number, and whether it is there
+pub record Fault : Type 0 where
   pub number : ℕ
-  pub passes : Bool
+  pub there : Bool
 
 abbrev pub chosen : Bool → ℕ → ℕ → ℕ
 chosen true number later = number
 chosen false number later = later
 
--- the number of the first test that passes, 0 where none does
-abbrev pub firstOf : List Test → ℕ
+-- the number of the first fault that is there, 0 where none is
+abbrev pub firstOf : List Fault → ℕ
 firstOf [] = 0
-firstOf (c ∷ cs) = chosen (c .passes) (c .number) (firstOf cs)
+firstOf (f ∷ fs) = chosen (f .there) (f .number) (firstOf fs)
 
 -- "a field gives 10 (head bytes), 11, 12, 13, 10 (contents)": the fault of a field that has its head bytes, 0 for none; room bytes
 -- come after its head
 unfoldable pub fieldFault : Bool → Tag → ℕ → ℕ → ℕ
 fieldFault first tag len room =
     firstOf
-    (record { number = 11; passes = isUnknown tag }
-    ∷ record { number = 12; passes = isMisplaced first tag }
-    ∷ record { number = 13; passes = not (allows tag len) }
-    ∷ record { number = 10; passes = ltb room len }
+    (record { number = 11; there = isUnknown tag }
+    ∷ record { number = 12; there = isMisplaced first tag }
+    ∷ record { number = 13; there = not (allows tag len) }
+    ∷ record { number = 10; there = ltb room len }
     ∷ [])
 
 -- What a book says, each thing with its place: a class count, at its tag byte; a fact, at its first byte; or a fault, at the tag byte

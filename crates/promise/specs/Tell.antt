@@ -28,8 +28,8 @@ adds Kind.answer (suc k) m = 0
 abbrev pub tellRefusals : Session → List ℕ → Fact → List Condition
 tellRefusals s t f = noSuchClass (s .classes) (f .lower) (f .upper) ∷ contradicted (s .classes) t f ∷ []
 
--- With session s and table t the fact f is told, or given as an answer: the reply is r, and the table is then t′, the table of the
--- marks of t and of f.
+-- With session s and table t the fact f is told, or given as an answer: the reply is r, and the table is then t′, where accepted that
+-- of the marks of t and of f.
 pub record Took (kind : Kind) (s : Session) (t : List ℕ) (f : Fact) (r : Reply) (t′ : List ℕ) : Type 0 where
   pub replies :
       Replies (standing s t (tellRefusals s t f)) s (tested (adds kind 0 (mark (s .classes) t (f .lower) (f .upper))) s)

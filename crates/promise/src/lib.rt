@@ -14,14 +14,14 @@ pub struct Reply {
     pub session: Session,
 }
 
-// What next gives: the pair to ask about, or that none is open.
+// What next gives: the pair to ask about, that none is open, or a refusal with its number and place.
 pub enum Question {
     Ask { lower: usize, upper: usize },
     Done,
     Refused { number: u8, place: usize },
 }
 
-// What hierarchy, ladder and write give: how many steps, rungs or bytes were written.
+// What hierarchy, ladder and write give: how many steps, rungs or bytes were written, or a refusal with its number and place.
 pub enum Wrote {
     Count(usize),
     Refused { number: u8, place: usize },
