@@ -2,6 +2,7 @@
 -- leaves is fixed and there.
 -- Assumes nothing.
 use mathlib.Core.Path.{_≡_, refl, sym, _∙_, ap}
+use mathlib.Core.Logic.{_≢_}
 use mathlib.Core.List.{List}
 use Prim.Native.Nat.{ℕ}
 use native.Mathlib.Decide.{ℕ-discrete}
@@ -22,6 +23,20 @@ reply-same {r} {r₂} a b c =
     ap (λ (k : ℕ). reply k (r .place) (r .session)) a
     ∙ ap (λ (k : ℕ). reply (r₂ .number) k (r .session)) b
     ∙ ap (λ (s : Session). reply (r₂ .number) (r₂ .place) s) c
+
+-- a refusal, as a reply
+pub replies-refused :
+    {refusals : List Condition} {back new : Session} {n k : ℕ} {Must : List ℕ → Type 0} {t : List ℕ} → First refusals k
+    → k ≢ 0 → Replies refusals back new n Must t (reply k 0 back) t
+replies-refused f ne =
+    record {
+      number = f;
+      place = refl;
+      refused = λ _. (refl, refl);
+      session = λ z. absurd (ne z);
+      marks = λ z. absurd (ne z);
+      rest = λ z. absurd (ne z);
+    }
 
 pub replies-unique :
     {refusals : List Condition} {back new : Session} {n : ℕ} {Must : List ℕ → Type 0} {t : List ℕ} {r r₂ : Reply}
@@ -64,15 +79,4 @@ module _ (refusals : List Condition) (back new : Session) (n : ℕ) (Must : List
               rest = λ _. u .2;
             },
           )
-      go (no e) = (
-        reply k 0 back,
-        t,
-        record {
-          number = f;
-          place = refl;
-          refused = λ _. (refl, refl);
-          session = λ z. absurd (e z);
-          marks = λ z. absurd (e z);
-          rest = λ z. absurd (e z);
-        },
-      )
+      go (no e) = (reply k 0 back, t, replies-refused f e)

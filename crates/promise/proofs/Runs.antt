@@ -1,6 +1,6 @@
 -- Demand 3, over any run of tells and answers, refused ones among them; and the tally as a number read off the history.
 -- Assumes nothing.
-use mathlib.Core.Path.{_≡_, refl, _∙_, ap, subst}
+use mathlib.Core.Path.{_≡_, refl, _∙_, ap, subst, subst⁻¹}
 use mathlib.Core.Logic.{_↔_, _≢_, inl, inr}
 use mathlib.Core.List.{List, [], _∷_, _++_, List·Memᴰ·not-nil}
 use Prim.Native.Nat.{ℕ, zero, suc, _+_, _*_, _≤_, _<_}
@@ -17,10 +17,10 @@ use Rattle.order.proofs.Exactness.{exact}
 use Rattle.promise.specs.declared.Session.{Session}
 use Rattle.promise.specs.declared.Reply.{Reply}
 use Rattle.promise.specs.Tell.{Kind, Took}
-use Rattle.promise.specs.Runs.{StandsFor, Made, Run, FromFresh, unlessRefused, acceptedFacts, testsIn}
+use Rattle.promise.specs.Runs.{StandsFor, Made, Run, FromFresh, Call, callsOf, unlessRefused, acceptedFacts, testsIn}
 use Rattle.promise.proofs.Standing.{standing-passed}
 use Rattle.promise.proofs.Fresh.{fresh-stands, fresh-there, fresh-accepted}
-use Rattle.promise.proofs.Tell.{tell-there, tell-opens, tell-stands, tell-refused}
+use Rattle.promise.proofs.Tell.{tell-unique, tell-there, tell-opens, tell-stands, tell-refused}
 
 -- the same facts, said otherwise
 pub stands-equal : {S S′ : Facts} {s : Session} {t : List ℕ} → S ⊆ S′ → S′ ⊆ S → StandsFor S s t → StandsFor S′ s t
@@ -156,14 +156,6 @@ run-cut [] since {s} {s′} {t} run = (s, t, Run.stop, run)
 run-cut (m ∷ before) since (Run.call h e run) =
     let q = run-cut before since run in (q .0, q .1, Run.call h e (q .2), q .3)
 
--- a call, before its refusal number is known
-abbrev pub Call : Type 0
-Call = Kind × Fact
-
-abbrev pub callsOf : List Made → List Call
-callsOf [] = []
-callsOf (m ∷ later) = (m .kind, m .fact) ∷ callsOf later
-
 pub run-there :
     (calls : List Call) (s : Session) (t : List ℕ)
     → (made : List Made) × (s′ : Session) × (t′ : List ℕ) × Run s t made s′ t′ × (callsOf made ≡ calls)
@@ -177,6 +169,43 @@ run-there (c ∷ calls) s t =
       Run.call (q .2) refl (later .3),
       ap (λ (l : List Call). c ∷ l) (later .4),
     )
+
+abbrev firstOr : Call → List Call → Call
+firstOr c [] = c
+firstOr _ (c ∷ calls) = c
+
+abbrev rest : List Call → List Call
+rest [] = []
+rest (c ∷ calls) = calls
+
+-- no two runs make the same calls from one session and one table and come out apart
+pub run-unique :
+    {made made₂ : List Made} {s s₁ s₂ : Session} {t t₁ t₂ : List ℕ} → Run s t made s₁ t₁ → Run s t made₂ s₂ t₂
+    → callsOf made ≡ callsOf made₂ → (s₁ ≡ s₂) × (t₁ ≡ t₂)
+run-unique Run.stop Run.stop e = (refl, refl)
+run-unique Run.stop (Run.call h same run) e = absurd (omega (arith, ap length e))
+run-unique (Run.call h same run) Run.stop e = absurd (omega (arith, ap length e))
+run-unique {s = s} {s₂ = s₂} {t = t} {t₂ = t₂} (Run.call {m = m} {t₁ = u} {r = r} h same run)
+    (Run.call {later = later₂} {t₁ = u₂} {r = r₂} h₂ same₂ run₂) e =
+    let first = ap (λ (calls : List Call). firstOr (m .kind, m .fact) calls) e in
+    let q = tell-unique h (subst⁻¹ (λ (c : Call). Took (c .0) s t (c .1) r₂ u₂) first h₂) in
+    let later : Run (r .session) u later₂ s₂ t₂ =
+    subst⁻¹ (λ (x : Reply). Run (x .session) u later₂ s₂ t₂) (q .0)
+    (subst⁻¹ (λ (v : List ℕ). Run (r₂ .session) v later₂ s₂ t₂) (q .1) run₂)
+    in
+    run-unique run later (ap rest e)
+
+-- and it can be led on by one call more
+pub run-then :
+    {made : List Made} (m : Made) {s s₁ : Session} {t t₁ t₂ : List ℕ} {r : Reply} → Run s t made s₁ t₁
+    → Took (m .kind) s₁ t₁ (m .fact) r t₂ → r .number ≡ m .number
+    → Run s t (made ++ m ∷ []) (r .session) t₂
+run-then m Run.stop took e = Run.call took e Run.stop
+run-then m (Run.call h same run) took e = Run.call h same (run-then m run took e)
+
+pub calls-then : (made : List Made) (m : Made) → callsOf (made ++ m ∷ []) ≡ callsOf made ++ (m .kind, m .fact) ∷ []
+calls-then [] m = refl
+calls-then (first ∷ made) m = ap (λ (l : List Call). (first .kind, first .fact) ∷ l) (calls-then made m)
 
 -- from fresh, any list of calls for any class count from 1 to 128 on any table that is long enough
 pub fresh-run-there :

@@ -1,7 +1,7 @@
 -- Refusals 1 to 4: what holds where none of them is due, and that there is a first one or none.
 -- Assumes nothing.
 use mathlib.Core.Path.{refl}
-use mathlib.Core.Logic.{_⊎_, inl, inr, ⊎-elim}
+use mathlib.Core.Logic.{_≢_, _⊎_, inl, inr, ⊎-elim}
 use mathlib.Core.List.{List, []}
 use Prim.Native.Nat.{ℕ, _+_, _*_, _-_, _≤_, _<_}
 use native.Mathlib.Decide.{ℕ-discrete, decLt, decLe}
@@ -56,6 +56,15 @@ stands-first own st (inr (_, inl (e, _))) = absurd (omega (arith, st .room))
 stands-first own st (inr (_, inr (_, inl (e, _)))) = absurd (e (st .sound))
 stands-first own st (inr (_, inr (_, inr (_, inl (e, _))))) = absurd (omega (arith, st .count))
 stands-first own st (inr (_, inr (_, inr (_, inr (_, w))))) = w
+
+-- a refusal 1 to 4 comes before those of the call itself
+pub standing-refused :
+    (own : List Condition) (s : Session) (t : List ℕ) (k : ℕ) → First (standing s t []) k → k ≢ 0 → First (standing s t own) k
+standing-refused own s t k (inl p) ne = inl p
+standing-refused own s t k (inr (p, inl q)) ne = inr (p, inl q)
+standing-refused own s t k (inr (p, inr (q, inl r))) ne = inr (p, inr (q, inl r))
+standing-refused own s t k (inr (p, inr (q, inr (r, inl v)))) ne = inr (p, inr (q, inr (r, inl v)))
+standing-refused own s t k (inr (p, inr (q, inr (r, inr (v, e))))) ne = absurd (ne e)
 
 pub first-stands :
     (own : List Condition) {s : Session} {t : List ℕ} {k : ℕ} → Stands s t → First own k → First (standing s t own) k

@@ -87,11 +87,27 @@ tell-there kind s t f =
               (taken-table n t (p .0 .sound) f (p .1) (p .2) .at a b ha hb);
         }
 
--- a fact that the table has already, by a session that stands, is accepted and changes nothing
-pub agreeing-unchanged :
-    {kind : Kind} {s : Session} {t : List ℕ} {f : Fact} {r : Reply} {t′ : List ℕ} → Stands s t → Marks (s .classes) t f
-    → Took kind s t f r t′ → (r ≡ reply 0 0 s) × (t′ ≡ t)
-agreeing-unchanged {kind} {s} {t} {f} {r} {t′} st m h = tell-unique h same
+-- a fact that the table has already is accepted and changes nothing, where none of the refusals 1 to 4 is due
+pub agreeing-took :
+    (kind : Kind) {s : Session} {t : List ℕ} {f : Fact} → Stands s t → Marks (s .classes) t f → Took kind s t f (reply 0 0 s) t
+agreeing-took kind {s} {t} {f} st m =
+    record {
+      replies =
+          record {
+            number =
+                first-stands (tellRefusals s t f) st
+                (inr (
+                  λ z. elim z [ inl p ↦ omega (arith, m .lower-below) | inr p ↦ omega (arith, m .upper-below) ],
+                  inr (λ z. for-not-against (f .holds) (sym (m .settled) ∙ z), refl),
+                ));
+            place = refl;
+            refused = λ z. absurd (z refl);
+            session = λ _.
+                rw (none-added kind (mark (s .classes) t (f .lower) (f .upper)) settled, add-zero (s .tests)) refl;
+            marks = λ _. table-settled f (sound-table (st .sound)) m;
+            rest = λ _. rest-refl t;
+          };
+    }
   where
     none-added : (kind : Kind) (k : ℕ) → k ≢ 0 → adds kind 0 k ≡ 0
     none-added Kind.tell k z = refl
@@ -101,25 +117,10 @@ agreeing-unchanged {kind} {s} {t} {f} {r} {t′} st m h = tell-unique h same
     settled : mark (s .classes) t (f .lower) (f .upper) ≢ 0
     settled z = mark-for-settled (f .holds) (sym (m .settled) ∙ z)
 
-    same : Took kind s t f (reply 0 0 s) t
-    same =
-        record {
-          replies =
-              record {
-                number =
-                    first-stands (tellRefusals s t f) st
-                    (inr (
-                      λ z. elim z [ inl p ↦ omega (arith, m .lower-below) | inr p ↦ omega (arith, m .upper-below) ],
-                      inr (λ z. for-not-against (f .holds) (sym (m .settled) ∙ z), refl),
-                    ));
-                place = refl;
-                refused = λ z. absurd (z refl);
-                session = λ _.
-                    rw (none-added kind (mark (s .classes) t (f .lower) (f .upper)) settled, add-zero (s .tests)) refl;
-                marks = λ _. table-settled f (sound-table (st .sound)) m;
-                rest = λ _. rest-refl t;
-              };
-        }
+pub agreeing-unchanged :
+    {kind : Kind} {s : Session} {t : List ℕ} {f : Fact} {r : Reply} {t′ : List ℕ} → Stands s t → Marks (s .classes) t f
+    → Took kind s t f r t′ → (r ≡ reply 0 0 s) × (t′ ≡ t)
+agreeing-unchanged {kind} st m h = tell-unique h (agreeing-took kind st m)
 
 -- the class count stays, the tally grows by what the call adds, and that and what stays open is no more than was open
 pub tell-opens :

@@ -39,6 +39,14 @@ pub record FromFresh (n : ℕ) (t : List ℕ) (calls : List Made) (s′ : Sessio
   pub accepted : reply .number ≡ 0
   pub run : Run (reply .session) table calls s′ t′
 
+-- a call, before its refusal number is known
+abbrev pub Call : Type 0
+Call = Kind × Fact
+
+abbrev pub callsOf : List Made → List Call
+callsOf [] = []
+callsOf (m ∷ later) = (m .kind, m .fact) ∷ callsOf later
+
 abbrev pub unlessRefused : ℕ → Fact → List Fact → List Fact
 unlessRefused zero f later = f ∷ later
 unlessRefused (suc k) f later = later

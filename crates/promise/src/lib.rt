@@ -38,3 +38,7 @@ pub const SHORT_TABLE: u8 = 2;
 pub const NOT_SOUND: u8 = 3;
 
 pub const OVERCOUNTED: u8 = 4;
+
+pub const NO_SUCH_CLASS: u8 = 5;
+
+pub const CONTRADICTED: u8 = 6;

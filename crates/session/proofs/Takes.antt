@@ -1,0 +1,95 @@
+-- What judging a fact by its mark and taking it in comes to: the outcome that tell and answer owe.
+-- Assumes nothing.
+use mathlib.Core.Path.{_≡_, refl, sym, _∙_}
+use mathlib.Core.Logic.{_⊎_, inl, inr, ⊎-elim}
+use mathlib.Core.Bool.{Bool, true, false, not}
+use mathlib.Core.List.{List}
+use Prim.Native.Nat.{ℕ, _≤_, _<_}
+use native.Mathlib.Omega.{arith}
+use Rattle.order.specs.Tables.{mark, Marks, Contradicts}
+use Rattle.order.proofs.Tables.{mark-against-settled}
+use Rattle.promise.specs.declared.Session.{Session}
+use Rattle.promise.specs.declared.Reply.{Reply}
+use Rattle.promise.specs.Sessions.{tested}
+use Rattle.promise.specs.Tell.{Kind, adds, tellRefusals, Took}
+use Rattle.promise.proofs.Standing.{Stands, first-stands}
+use Rattle.promise.proofs.Replies.{replies-refused}
+use Rattle.promise.proofs.Tell.{agreeing-took}
+use Rattle.table.specs.Shape.{Shape, Takes, TakenIn}
+use Rattle.session.specs.Facts.{factOn, kindOf, one, replyOf, Judged}
+
+-- the table of a session for which none of the refusals 1 to 4 is due has its shape
+pub shaped : {s : Session} {t : List ℕ} → Stands s t → Shape (s .classes) t
+shaped st = record { few = st .few; room = st .room }
+
+module _ (kind : Kind) {s : Session} {t : List ℕ} (st : Stands s t) (lower upper : ℕ) where
+  -- 5: a class number is n or more
+  pub no-such-class :
+      (holds : Bool) → (s .classes ≤ lower) ⊎ (s .classes ≤ upper) → Took kind s t (factOn lower upper holds) (replyOf 5 s) t
+  no-such-class holds h =
+      record {
+        replies =
+            replies-refused (first-stands (tellRefusals s t (factOn lower upper holds)) st (inl (h, refl))) (λ z. omega arith);
+      }
+
+  module _ (lower-below : lower < s .classes) (upper-below : upper < s .classes) where
+    -- neither class is n or more
+    below : ¬ ((s .classes ≤ lower) ⊎ (s .classes ≤ upper))
+    below = ⊎-elim (λ z. omega arith) (λ z. omega arith)
+
+    contradicts :
+        (holds : Bool) → Contradicts (s .classes) t (factOn lower upper holds)
+        → Took kind s t (factOn lower upper holds) (replyOf 6 s) t
+    contradicts holds h =
+        record {
+          replies =
+              replies-refused
+              (first-stands (tellRefusals s t (factOn lower upper holds)) st (inr (below, inl (h, refl)))) (λ z. omega arith);
+        }
+
+    agrees :
+        (holds : Bool) → Marks (s .classes) t (factOn lower upper holds)
+        → Took kind s t (factOn lower upper holds) (replyOf 0 s) t
+    agrees holds m = agreeing-took kind st m
+
+    -- a fact on a pair marked yes, and on one marked no
+    pub judged-yes :
+        (holds : Bool) {r : Reply} → mark (s .classes) t lower upper ≡ 1 → Judged s holds r
+        → Took kind s t (factOn lower upper holds) r t
+    judged-yes true m e =
+        rw e (agrees true (record { lower-below = lower-below; upper-below = upper-below; settled = m }))
+    judged-yes false m e = rw e (contradicts false m)
+
+    pub judged-no :
+        (holds : Bool) {r : Reply} → mark (s .classes) t lower upper ≡ 2 → Judged s (not holds) r
+        → Took kind s t (factOn lower upper holds) r t
+    judged-no true m e = rw e (contradicts true m)
+    judged-no false m e =
+        rw e (agrees false (record { lower-below = lower-below; upper-below = upper-below; settled = m }))
+
+-- a fact on an open pair, taken in
+pub open-taken :
+    (counts holds : Bool) (s : Session) (t t′ : List ℕ) (lower upper : ℕ) → Stands s t → Takes (s .classes) t lower upper
+    → TakenIn (s .classes) (factOn lower upper holds) t t′
+    → Took (kindOf counts) s t (factOn lower upper holds) (replyOf 0 (tested (one counts) s)) t′
+open-taken counts holds s t t′ lower upper st h taken =
+    record {
+      replies =
+          record {
+            number =
+                first-stands (tellRefusals s t (factOn lower upper holds)) st
+                (inr (
+                  ⊎-elim (λ z. omega (arith, h .lower-below)) (λ z. omega (arith, h .upper-below)),
+                  inr (λ z. mark-against-settled holds (sym z ∙ h .is-open), refl),
+                ));
+            place = refl;
+            refused = λ z. absurd (z refl);
+            session = λ _. rw (counted counts) refl;
+            marks = λ _. taken .marks;
+            rest = λ _. taken .rest;
+          };
+    }
+  where
+    counted : (counts : Bool) → adds (kindOf counts) 0 (mark (s .classes) t lower upper) ≡ one counts
+    counted true = rw (h .is-open) refl
+    counted false = refl

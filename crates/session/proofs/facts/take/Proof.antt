@@ -1,0 +1,55 @@
+-- `session::facts::take` meets its contract.
+-- Assumes nothing.
+use mathlib.Core.Path.{subst}
+use mathlib.Core.List.{[]}
+use Prim.Native.Nat.{ℕ}
+use Rattle.order.specs.Refusals.{First}
+use Rattle.promise.specs.Refusals.{standing}
+use Rattle.promise.specs.Tell.{tellRefusals}
+use Rattle.promise.proofs.Standing.{standing-refused}
+use Rattle.promise.proofs.Replies.{replies-refused}
+use Rattle.session.specs.Facts.{factOn}
+use borrow.Author.Needs.{needs}
+use Rattle.session.proofs.facts.take.Statement.{statement}
+use Rattle.session.proofs.facts.take.Tie as tie
+
+standing-requires : tie.Need-standing-requires
+standing-requires c κs = search needs
+
+refused-requires : tie.Need-refused-requires
+refused-requires c κs = search needs
+
+same-length : tie.Need-same-length
+same-length c = search needs
+
+returns : tie.Need-returns
+returns c =
+    let tried = c .before in
+    let a = tried .before .before .before .before .args in
+    let own = tellRefusals (a .session) (a .table .now) (factOn (a .lower) (a .upper) (a .holds)) in
+    rw (c .refused .ensures)
+    (record { replies = replies-refused (standing-refused own _ _ _ (tried .before .standing .ensures) (tried .if1 .taken)) (tried .if1 .taken) })
+
+take-standing-requires : tie.Need-take-standing-requires
+take-standing-requires c κs =
+    let start = c .before .before .before .before .before in
+    subst (λ (k : ℕ). First (standing (start .args .session) (start .args .table .now) []) k) (c .before .if1 .left)
+    (c .before .before .standing .ensures)
+
+same-length-2 : tie.Need-same-length-2
+same-length-2 c = search needs
+
+returns-2 : tie.Need-returns-2
+returns-2 c = search needs
+
+pub take-spec : {M : Type 1} → statement M
+take-spec =
+    tie.close
+    (tie.spec
+    standing-requires
+    refused-requires
+    same-length
+    returns
+    take-standing-requires
+    same-length-2
+    returns-2)

@@ -1,0 +1,104 @@
+-- `session::fresh` meets its contract.
+-- Assumes nothing.
+use mathlib.Core.Path.{refl}
+use mathlib.Core.Logic.{inl, inr, ⊎-elim}
+use native.Mathlib.Omega.{arith}
+use Rattle.promise.proofs.Replies.{replies-refused}
+use Rattle.table.proofs.Index.{square}
+use borrow.Author.Needs.{needs}
+use Rattle.session.proofs.fresh.Statement.{statement}
+use Rattle.session.proofs.fresh.Tie as tie
+
+no-session-requires : tie.Need-no-session-requires
+no-session-requires c κs = search needs
+
+refused-requires : tie.Need-refused-requires
+refused-requires c κs = search needs
+
+returns : tie.Need-returns
+returns c =
+    rw (c .refused .ensures, c .before .no-session .ensures)
+    (record { replies = replies-refused (inl (inl (c .before .before .if1 .taken), refl)) (λ z. omega arith) })
+
+no-session-requires-2 : tie.Need-no-session-requires-2
+no-session-requires-2 c κs = search needs
+
+refused-requires-2 : tie.Need-refused-requires-2
+refused-requires-2 c κs = search needs
+
+returns-2 : tie.Need-returns-2
+returns-2 c =
+    rw (c .refused2 .ensures, c .before .no-session2 .ensures)
+    (record { replies = replies-refused (inl (inr (c .before .before .if2 .taken), refl)) (λ z. omega arith) })
+
+mul-if3 : tie.Need-mul-if3
+mul-if3 c = omega (arith, square _ (c .if2 .left))
+
+no-session-requires-3 : tie.Need-no-session-requires-3
+no-session-requires-3 c κs = search needs
+
+refused-requires-3 : tie.Need-refused-requires-3
+refused-requires-3 c κs = search needs
+
+returns-3 : tie.Need-returns-3
+returns-3 c =
+    let tried = c .before .before in
+    rw (c .refused3 .ensures, c .before .no-session3 .ensures)
+    (record {
+      replies =
+          replies-refused
+          (inr (⊎-elim (tried .before .before .if1 .left) (λ z. omega (arith, tried .before .if2 .left)), inl (tried .if3 .taken, refl)))
+          (λ z. omega arith);
+    })
+
+fresh-marks-requires : tie.Need-fresh-marks-requires
+fresh-marks-requires c κs = search needs
+
+started-requires : tie.Need-started-requires
+started-requires c κs = search needs
+
+accepted-requires : tie.Need-accepted-requires
+accepted-requires c κs = search needs
+
+same-length : tie.Need-same-length
+same-length c = search needs
+
+returns-4 : tie.Need-returns-4
+returns-4 c =
+    let passed = c .before .before .before .before .before .before in
+    rw (c .accepted .ensures, c .before .started .ensures)
+    (record {
+      replies =
+          record {
+            number =
+                inr (
+                  ⊎-elim (passed .before .before .if1 .left) (λ z. omega (arith, passed .before .if2 .left)),
+                  inr (λ z. omega (arith, passed .if3 .left), refl),
+                );
+            place = refl;
+            refused = λ z. absurd (z refl);
+            session = λ _. refl;
+            marks = λ _. c .before .before .before .before .fresh-marks .ensures .marks;
+            rest = λ _. c .before .before .before .before .fresh-marks .ensures .rest;
+          };
+    })
+
+pub fresh-spec : {M : Type 1} → statement M
+fresh-spec =
+    tie.close
+    (tie.spec
+    no-session-requires
+    refused-requires
+    returns
+    no-session-requires-2
+    refused-requires-2
+    returns-2
+    mul-if3
+    no-session-requires-3
+    refused-requires-3
+    returns-3
+    fresh-marks-requires
+    started-requires
+    accepted-requires
+    same-length
+    returns-4)

@@ -1,0 +1,45 @@
+-- `session::next` meets its contract.
+-- Assumes nothing.
+use mathlib.Core.Path.{_≡_, refl, subst}
+use mathlib.Core.List.{List}
+use Prim.Native.Nat.{ℕ}
+use Rattle.order.specs.Refusals.{First}
+use Rattle.promise.specs.declared.Session.{Session}
+use Rattle.promise.specs.declared.Question.{Question}
+use Rattle.promise.specs.declared.Question.the-variants.{Ask, Done, Refused}
+use Rattle.promise.specs.Refusals.{standing}
+use Rattle.promise.specs.Next.{Says, numberOf, Asked}
+use mathlib.Core.List.{[]}
+use Rattle.promise.proofs.Standing.{standing-passed}
+use Rattle.session.proofs.Takes.{shaped}
+use borrow.Author.Needs.{needs}
+use Rattle.session.proofs.next.Statement.{statement}
+use Rattle.session.proofs.next.Tie as tie
+
+none : (s : Session) (t : List ℕ) (k : ℕ) → First (standing s t []) k → k ≡ 0 → First (standing s t []) 0
+none s t k h e = subst (λ (number : ℕ). First (standing s t []) number) e h
+
+-- what is found where none of the refusals 1 to 4 is due is the next question
+asked :
+    (s : Session) (t : List ℕ) (q : Question) → First (standing s t []) 0 → Says (s .classes) t q → numberOf q ≡ 0 → Asked s t q
+asked s t (Ask a b) h says e = record { number = h; place = refl; says = says }
+asked s t Done h says e = record { number = h; place = refl; says = says }
+asked s t (Refused number place) h says e = absurd (says e)
+
+standing-requires : tie.Need-standing-requires
+standing-requires c κs = search needs
+
+returns : tie.Need-returns
+returns c = search needs
+
+first-open-requires : tie.Need-first-open-requires
+first-open-requires c κs = shaped (standing-passed [] (none _ _ _ (c .before .standing .ensures) (c .if1 .left)) .0)
+
+returns-2 : tie.Need-returns-2
+returns-2 c =
+    let e = c .before in
+    asked _ _ (c .first-open .result) (none _ _ _ (e .before .standing .ensures) (e .if1 .left)) (c .first-open .ensures .0)
+    (c .first-open .ensures .1)
+
+pub next-spec : {M : Type 1} → statement M
+next-spec = tie.close (tie.spec standing-requires returns first-open-requires returns-2)

@@ -1,0 +1,63 @@
+// The calls fresh, tell, answer and next. None has a requires: any class count, tally, table and class numbers get an answer or a refusal.
+mod facts;
+mod replies;
+
+use promise::BAD_COUNT;
+use promise::MOST_CLASSES;
+use promise::Question;
+use promise::Reply;
+use promise::SHORT_TABLE;
+use promise::Session;
+pub use replies::accepted;
+use replies::no_session;
+use replies::refused;
+use replies::started;
+ghost use Rattle.promise.specs.Fresh.{Freshened};
+ghost use Rattle.promise.specs.Next.{Asked};
+ghost use Rattle.promise.specs.Tell.{Told, Answered};
+ghost use Rattle.session.specs.Facts.{factOn};
+
+// A new table: yes on the diagonal, open elsewhere.
+pub fn fresh(classes: usize, table: &mut [u8]) -> Reply
+    ensures { λ r. ⌜ Freshened classes (now (table .entry)) r (now (table .exit)) ⌝ }
+{
+    if classes == 0 {
+        return refused(BAD_COUNT, no_session());
+    }
+    if MOST_CLASSES < classes {
+        return refused(BAD_COUNT, no_session());
+    }
+    if table.len() < classes * classes {
+        return refused(SHORT_TABLE, no_session());
+    }
+    table::fresh_marks(classes, &mut *table);
+    accepted(started(classes))
+}
+
+// A fact is told: it never counts as a test.
+pub fn tell(session: Session, table: &mut [u8], lower: usize, upper: usize, holds: bool) -> Reply
+    ensures { λ r. ⌜ Told session (now (table .entry)) (factOn lower upper holds) r (now (table .exit)) ⌝ }
+{
+    facts::take(session, &mut *table, lower, upper, holds, false)
+}
+
+// A fact is given as an answer: it counts as a test where its pair was open.
+pub fn answer(session: Session, table: &mut [u8], lower: usize, upper: usize, holds: bool) -> Reply
+    ensures { λ r. ⌜ Answered session (now (table .entry)) (factOn lower upper holds) r (now (table .exit)) ⌝ }
+{
+    facts::take(session, &mut *table, lower, upper, holds, true)
+}
+
+// The next question: the first open pair, rows in rising order and then columns.
+pub fn next(session: Session, table: &[u8]) -> Question
+    ensures { λ q. ⌜ Asked session (now (table .entry)) q ⌝ }
+{
+    let number = table::standing(session, table);
+    if number != 0 {
+        return Question::Refused {
+            number: number,
+            place: 0,
+        };
+    }
+    table::first_open(session.classes, table)
+}
