@@ -147,7 +147,7 @@ pub fresh-runs-agree :
     → b < n → mark n u a b ≢ 0 → mark n u₂ a b ≡ mark n u a b
 fresh-runs-agree h h₂ i = settled-stays i (fresh-run-table h) (fresh-run-table h₂)
 
--- A run is any list of calls: it can be cut at any moment, and every list of calls has one.
+-- A run is any list of calls: it can be cut at any moment and led on by one call more, and every list of calls has one.
 
 pub run-cut :
     (before since : List Made) {s s′ : Session} {t t′ : List ℕ} → Run s t (before ++ since) s′ t′
@@ -155,6 +155,17 @@ pub run-cut :
 run-cut [] since {s} {s′} {t} run = (s, t, Run.stop, run)
 run-cut (m ∷ before) since (Run.call h e run) =
     let q = run-cut before since run in (q .0, q .1, Run.call h e (q .2), q .3)
+
+pub run-then :
+    {made : List Made} (m : Made) {s s₁ : Session} {t t₁ t₂ : List ℕ} {r : Reply} → Run s t made s₁ t₁
+    → Took (m .kind) s₁ t₁ (m .fact) r t₂ → r .number ≡ m .number
+    → Run s t (made ++ m ∷ []) (r .session) t₂
+run-then m Run.stop took e = Run.call took e Run.stop
+run-then m (Run.call h same run) took e = Run.call h same (run-then m run took e)
+
+pub calls-then : (made : List Made) (m : Made) → callsOf (made ++ m ∷ []) ≡ callsOf made ++ (m .kind, m .fact) ∷ []
+calls-then [] m = refl
+calls-then (first ∷ made) m = ap (λ (l : List Call). (first .kind, first .fact) ∷ l) (calls-then made m)
 
 pub run-there :
     (calls : List Call) (s : Session) (t : List ℕ)
@@ -169,43 +180,6 @@ run-there (c ∷ calls) s t =
       Run.call (q .2) refl (later .3),
       ap (λ (l : List Call). c ∷ l) (later .4),
     )
-
-abbrev firstOr : Call → List Call → Call
-firstOr c [] = c
-firstOr _ (c ∷ calls) = c
-
-abbrev rest : List Call → List Call
-rest [] = []
-rest (c ∷ calls) = calls
-
--- no two runs make the same calls from one session and one table and come out apart
-pub run-unique :
-    {made made₂ : List Made} {s s₁ s₂ : Session} {t t₁ t₂ : List ℕ} → Run s t made s₁ t₁ → Run s t made₂ s₂ t₂
-    → callsOf made ≡ callsOf made₂ → (s₁ ≡ s₂) × (t₁ ≡ t₂)
-run-unique Run.stop Run.stop e = (refl, refl)
-run-unique Run.stop (Run.call h same run) e = absurd (omega (arith, ap length e))
-run-unique (Run.call h same run) Run.stop e = absurd (omega (arith, ap length e))
-run-unique {s = s} {s₂ = s₂} {t = t} {t₂ = t₂} (Run.call {m = m} {t₁ = u} {r = r} h same run)
-    (Run.call {later = later₂} {t₁ = u₂} {r = r₂} h₂ same₂ run₂) e =
-    let first = ap (λ (calls : List Call). firstOr (m .kind, m .fact) calls) e in
-    let q = tell-unique h (subst⁻¹ (λ (c : Call). Took (c .0) s t (c .1) r₂ u₂) first h₂) in
-    let later : Run (r .session) u later₂ s₂ t₂ =
-    subst⁻¹ (λ (x : Reply). Run (x .session) u later₂ s₂ t₂) (q .0)
-    (subst⁻¹ (λ (v : List ℕ). Run (r₂ .session) v later₂ s₂ t₂) (q .1) run₂)
-    in
-    run-unique run later (ap rest e)
-
--- and it can be led on by one call more
-pub run-then :
-    {made : List Made} (m : Made) {s s₁ : Session} {t t₁ t₂ : List ℕ} {r : Reply} → Run s t made s₁ t₁
-    → Took (m .kind) s₁ t₁ (m .fact) r t₂ → r .number ≡ m .number
-    → Run s t (made ++ m ∷ []) (r .session) t₂
-run-then m Run.stop took e = Run.call took e Run.stop
-run-then m (Run.call h same run) took e = Run.call h same (run-then m run took e)
-
-pub calls-then : (made : List Made) (m : Made) → callsOf (made ++ m ∷ []) ≡ callsOf made ++ (m .kind, m .fact) ∷ []
-calls-then [] m = refl
-calls-then (first ∷ made) m = ap (λ (l : List Call). (first .kind, first .fact) ∷ l) (calls-then made m)
 
 -- from fresh, any list of calls for any class count from 1 to 128 on any table that is long enough
 pub fresh-run-there :
@@ -226,3 +200,28 @@ fresh-run-there calls n t some few room =
       },
       x .4,
     )
+
+abbrev firstOr : Call → List Call → Call
+firstOr c [] = c
+firstOr _ (c ∷ calls) = c
+
+abbrev rest : List Call → List Call
+rest [] = []
+rest (c ∷ calls) = calls
+
+-- runs that make the same calls from one session and one table leave one session and one table
+pub run-unique :
+    {made made₂ : List Made} {s s₁ s₂ : Session} {t t₁ t₂ : List ℕ} → Run s t made s₁ t₁ → Run s t made₂ s₂ t₂
+    → callsOf made ≡ callsOf made₂ → (s₁ ≡ s₂) × (t₁ ≡ t₂)
+run-unique Run.stop Run.stop e = (refl, refl)
+run-unique Run.stop (Run.call h same run) e = absurd (omega (arith, ap length e))
+run-unique (Run.call h same run) Run.stop e = absurd (omega (arith, ap length e))
+run-unique {s = s} {s₂ = s₂} {t = t} {t₂ = t₂} (Run.call {m = m} {t₁ = u} {r = r} h same run)
+    (Run.call {later = later₂} {t₁ = u₂} {r = r₂} h₂ same₂ run₂) e =
+    let first = ap (λ (calls : List Call). firstOr (m .kind, m .fact) calls) e in
+    let q = tell-unique h (subst⁻¹ (λ (c : Call). Took (c .0) s t (c .1) r₂ u₂) first h₂) in
+    let later : Run (r .session) u later₂ s₂ t₂ =
+    subst⁻¹ (λ (x : Reply). Run (x .session) u later₂ s₂ t₂) (q .0)
+    (subst⁻¹ (λ (v : List ℕ). Run (r₂ .session) v later₂ s₂ t₂) (q .1) run₂)
+    in
+    run-unique run later (ap rest e)
