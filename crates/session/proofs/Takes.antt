@@ -16,7 +16,7 @@ use Rattle.promise.proofs.Standing.{Stands, first-stands}
 use Rattle.promise.proofs.Replies.{replies-refused}
 use Rattle.promise.proofs.Tell.{agreeing-took}
 use Rattle.table.specs.Shape.{Shape, Takes, TakenIn}
-use Rattle.session.specs.Facts.{factOn, kindOf, one, replyOf, Judged}
+use Rattle.session.specs.Facts.{factOn, kindOf, countOf, replyOf, Judged}
 
 -- the table of a session for which none of the refusals 1 to 4 is due has its shape
 pub shaped : {s : Session} {t : List ℕ} → Stands s t → Shape (s .classes) t
@@ -71,7 +71,7 @@ module _ (kind : Kind) {s : Session} {t : List ℕ} (st : Stands s t) (lower upp
 pub open-taken :
     (counts holds : Bool) (s : Session) (t t′ : List ℕ) (lower upper : ℕ) → Stands s t → Takes (s .classes) t lower upper
     → TakenIn (s .classes) (factOn lower upper holds) t t′
-    → Took (kindOf counts) s t (factOn lower upper holds) (replyOf 0 (tested (one counts) s)) t′
+    → Took (kindOf counts) s t (factOn lower upper holds) (replyOf 0 (tested (countOf counts) s)) t′
 open-taken counts holds s t t′ lower upper st h taken =
     record {
       replies =
@@ -90,6 +90,6 @@ open-taken counts holds s t t′ lower upper st h taken =
           };
     }
   where
-    counted : (counts : Bool) → adds (kindOf counts) 0 (mark (s .classes) t lower upper) ≡ one counts
+    counted : (counts : Bool) → adds (kindOf counts) 0 (mark (s .classes) t lower upper) ≡ countOf counts
     counted true = rw (h .is-open) refl
     counted false = refl

@@ -17,9 +17,10 @@ abbrev pub kindOf : Bool → Kind
 kindOf true = Kind.answer
 kindOf false = Kind.tell
 
-abbrev pub one : Bool → ℕ
-one true = 1
-one false = 0
+-- and so a fact taken in adds one test or none
+abbrev pub countOf : Bool → ℕ
+countOf true = 1
+countOf false = 0
 
 -- the reply with a number, outside books
 abbrev pub replyOf : ℕ → Session → Reply

@@ -4,7 +4,7 @@ use promise::Session;
 ghost use mathlib.Core.Path.{_≡_};
 ghost use Prim.Native.Nat.{_<_};
 ghost use Rattle.promise.specs.Sessions.{noSession, started as startedWith, tested as testedBy};
-ghost use Rattle.session.specs.Facts.{replyOf, one};
+ghost use Rattle.session.specs.Facts.{replyOf, countOf};
 
 // The session where no class count was accepted.
 pub fn no_session() -> Session
@@ -29,7 +29,7 @@ pub fn started(classes: usize) -> Session
 // One test more where it counts.
 pub fn tested(session: Session, counts: bool) -> Session
     requires { ⌜ session .tests < 16384 ⌝ }
-    ensures { λ r. ⌜ r ≡ testedBy (one counts) session ⌝ }
+    ensures { λ r. ⌜ r ≡ testedBy (countOf counts) session ⌝ }
 {
     if counts {
         return Session {
