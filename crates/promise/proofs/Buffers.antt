@@ -2,25 +2,40 @@
 -- what is to be written is fixed and there.
 -- Assumes nothing.
 use mathlib.Core.Path.{_≡_, refl, sym, _∙_, ap, ap₂, subst}
-use mathlib.Core.List.{List}
-use Prim.Native.Nat.{ℕ, _<_}
+use mathlib.Core.Logic.{_≢_}
+use mathlib.Core.List.{List, [], _∷_, _++_}
+use Prim.Native.Nat.{ℕ, suc, _≤_, _<_}
 use native.Mathlib.Decide.{ℕ-discrete, decLt}
 use native.Mathlib.Omega.{arith}
-use lib.ListN.{length, drop, length-append, length-drop}
+use lib.ListN.{length, getD, set, drop, length-append, length-drop}
+use lib.Seq.{drop-cons, append-snoc, set-at}
 use Rattle.order.specs.Refusals.{Condition, First}
 use Rattle.order.proofs.Refusals.{first-unique}
 use Rattle.promise.specs.declared.Wrote.{Wrote}
 use Rattle.promise.specs.declared.Wrote.the-variants.{Count, Refused}
 use Rattle.promise.specs.Buffers.{numberOf, placeOf, over, TooShort, WrittenIn, Writes}
 
--- a buffer that is not too short keeps its length
+-- a buffer that is long enough keeps its length
+pub over-fits : (w out : List ℕ) → length w ≤ length out → length (over w out) ≡ length out
+over-fits w out h = omega (arith, length-append w (drop (length w) out), length-drop (length w) out)
+
 pub over-length :
     (P : List ℕ → Type 0) (w out : List ℕ) → P w → ¬ TooShort P out → length (over w out) ≡ length out
 over-length P w out p room = go (decLt (length out) (length w))
   where
     go : Dec (length out < length w) → length (over w out) ≡ length out
     go (yes h) = absurd (room (w, p, h))
-    go (no h) = omega (arith, length-append w (drop (length w) out), length-drop (length w) out)
+    go (no h) = over-fits w out (omega arith)
+
+-- one byte more stands right behind those written
+pub over-more :
+    (w out : List ℕ) (i x : ℕ) → length w ≡ i → i < length out → set (over w out) i x ≡ over (w ++ x ∷ []) out
+over-more w out i x e h =
+    let more : suc (length w) ≡ length (w ++ x ∷ []) = omega (arith, length-append w (x ∷ [])) in
+    ap (λ (u : List ℕ). set (w ++ u) i x) (drop-cons out (length w) 0 (omega arith))
+    ∙ set-at w (getD out (length w) 0) (drop (suc (length w)) out) x i e
+    ∙ sym (append-snoc w x (drop (suc (length w)) out))
+    ∙ ap (λ (k : ℕ). w ++ (x ∷ []) ++ drop k out) more
 
 -- whether a buffer is too short, where one list is to be written
 unfoldable pub too-short? :
@@ -53,6 +68,9 @@ module _ (refusals : List Condition) (P : List ℕ → Type 0) (out : List ℕ) 
       go (Refused k p) (Count c) e z f x y = absurd (x .0 e)
       go (Refused k p) (Refused k₂ p₂) e z f x y = (ap₂ Refused e z, x .1 ∙ sym (y .1))
 
+  pub writes-refused : {k : ℕ} → First refusals k → k ≢ 0 → Writes refusals P out (Refused k 0) out
+  writes-refused f e = record { number = f; place = refl; buffer = (e, refl) }
+
   unfoldable pub writes-there :
       (k : ℕ) × First refusals k → (First refusals 0 → (w : List ℕ) × P w)
       → (r : Wrote) × (out′ : List ℕ) × Writes refusals P out r out′
@@ -66,7 +84,7 @@ module _ (refusals : List Condition) (P : List ℕ → Type 0) (out : List ℕ) 
             over (w .0) out,
             record { number = g; place = refl; buffer = (w .0, w .1, refl, refl) },
           )
-      go (no e) = (Refused k 0, out, record { number = f; place = refl; buffer = (e, refl) })
+      go (no e) = (Refused k 0, out, writes-refused f e)
 
   -- the length of a buffer stays
   pub writes-length :

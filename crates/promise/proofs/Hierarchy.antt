@@ -21,7 +21,7 @@ use Rattle.promise.specs.declared.Wrote.{Wrote}
 use Rattle.promise.specs.declared.Wrote.the-variants.{Count, Refused}
 use Rattle.promise.specs.Refusals.{standing}
 use Rattle.promise.specs.Buffers.{numberOf, placeOf, over, TooShort}
-use Rattle.promise.specs.Hierarchy.{Under, Equal, HeadOf, Head, Direct, HeadsOf, StepsOf, StepBytes, hierarchyRefusals, HierarchyIn, HierarchyWritten}
+use Rattle.promise.specs.Hierarchy.{Under, Equal, HeadOf, Head, Third, Direct, HeadsOf, StepsOf, StepBytes, hierarchyRefusals, HierarchyIn, HierarchyWritten}
 use Rattle.promise.proofs.Standing.{Stands, standing-passed, stands-first, standing-there}
 use Rattle.promise.proofs.Buffers.{over-length, too-short?}
 
@@ -59,15 +59,7 @@ module _ (n : ℕ) (t : List ℕ) where
   unfoldable pub head? : (h : ℕ) → Dec (Head n t h)
   head? h = head-of? h h
 
-  -- a third head between a and b
-  pub record Third (a b c : ℕ) : Type 0 where
-    pub head : Head n t c
-    pub not-lower : c ≢ a
-    pub not-upper : c ≢ b
-    pub above : Under n t a c
-    pub under : Under n t c b
-
-  unfoldable pub third? : (a b c : ℕ) → Dec (Third a b c)
+  unfoldable pub third? : (a b c : ℕ) → Dec (Third n t a b c)
   third? a b c =
       as-well
       (λ p.
@@ -85,9 +77,7 @@ module _ (n : ℕ) (t : List ℕ) where
         to = p .1 .0;
         under = p .1 .1 .0;
         differ = p .1 .1 .1 .0;
-        alone = λ c hc na nb ac cb.
-            p .1 .1 .1 .1 c (hc .below)
-            (record { head = hc; not-lower = na; not-upper = nb; above = ac; under = cb });
+        alone = λ c z. p .1 .1 .1 .1 c (z .head .below) z;
       })
       (λ q. (
         q .from,
@@ -97,7 +87,7 @@ module _ (n : ℕ) (t : List ℕ) where
             q .under,
             (
               q .differ,
-              λ c _ z. q .alone c (z .head) (z .not-lower) (z .not-upper) (z .above) (z .under),
+              λ c _. q .alone c,
             ),
           ),
         ),
@@ -105,7 +95,7 @@ module _ (n : ℕ) (t : List ℕ) where
       (both (head? a)
       (both (head? b)
       (both (under? a b)
-      (both (negated (ℕ-discrete a b)) (all-below (λ c. ¬ Third a b c) (λ c. negated (third? a b c)) n)))))
+      (both (negated (ℕ-discrete a b)) (all-below (λ c. ¬ Third n t a b c) (λ c. negated (third? a b c)) n)))))
 
   abbrev pub steps-there : (l : List Pair) × StepsOf n t l
   steps-there = (pairsOf (Direct n t) direct? n, pairs-listed (Direct n t) direct? n)

@@ -17,11 +17,11 @@ use Rattle.promise.specs.declared.Session.{Session}
 use Rattle.promise.specs.declared.Wrote.{Wrote}
 use Rattle.promise.specs.Refusals.{standing}
 use Rattle.promise.specs.Buffers.{TooShort}
-use Rattle.promise.specs.Hierarchy.{Under, HeadOf, Head, Direct}
+use Rattle.promise.specs.Hierarchy.{Under, HeadOf, Head, Third, Direct}
 use Rattle.promise.specs.Ladder.{NextRung, Ladder, LadderOf, Above, Number, ladderRefusals, LadderWritten}
 use Rattle.promise.proofs.Standing.{Stands, standing-passed, standing-there, below-of}
 use Rattle.promise.proofs.Buffers.{too-short?, writes-unique, writes-there, writes-length}
-use Rattle.promise.proofs.Hierarchy.{head-unique, head-head, head-there, heads-equal, head?, under?, direct?, Third, third?}
+use Rattle.promise.proofs.Hierarchy.{head-unique, head-head, head-there, heads-equal, head?, under?, direct?, third?}
 
 -- how many numbers below k have a property: there is such a number, and it is less for a narrower property
 
@@ -33,6 +33,11 @@ number-there P dec (suc k) = go (dec k) (number-there P dec k)
     go : Dec (P k) → (m : ℕ) × Number P k m → (m : ℕ) × Number P (suc k) m
     go (yes p) (m, x) = (suc m, Number.counted p x)
     go (no p) (m, x) = (m, Number.passed p x)
+
+pub number-most : {P : ℕ → Type 0} {k m : ℕ} → Number P k m → m ≤ k
+number-most Number.none = omega arith
+number-most (Number.counted p x) = omega (arith, number-most x)
+number-most (Number.passed p x) = omega (arith, number-most x)
 
 number-le :
     {P Q : ℕ → Type 0} {k m m₂ : ℕ} → ((c : ℕ) → c < k → P c → Q c) → Number P k m → Number Q k m₂ → m ≤ m₂
@@ -76,6 +81,19 @@ module _ (n : ℕ) (t : List ℕ) where
 module _ (n : ℕ) (t : List ℕ) (sound : Sound n t) where
   pub through : {a b c : ℕ} → a < n → b < n → c < n → Under n t a b → Under n t b c → Under n t a c
   through {a} {b} {c} ha hb hc p q = sound .transitive a b c ha hb hc p q
+
+  -- a head that is equal to b is the head of b
+  pub head-of-equal : {a b : ℕ} → b < n → Head n t a → Under n t a b → Under n t b a → HeadOf n t b a
+  head-of-equal {a} {b} hb ha up back =
+      record {
+        below = ha .below;
+        equal = (back, up);
+        lowest = λ c hc e.
+            ha .lowest c hc (
+              through (ha .below) hb hc up (e .0),
+              through hc hb (ha .below) (e .1) back,
+            );
+      }
 
   -- nothing is above the head of b and under b
   top-ends : {b g c : ℕ} → b < n → HeadOf n t b g → NextRung n t b g c → ⊥
@@ -151,8 +169,7 @@ module _ (n : ℕ) (t : List ℕ) (sound : Sound n t) where
         to = hg;
         under = u;
         differ = ne;
-        alone = λ c hc na nb ac cb.
-            none (c, hc .below, record { head = hc; not-lower = na; not-upper = nb; above = ac; under = cb });
+        alone = λ c z. none (c, z .head .below, z);
       }
 
   unfoldable pub direct-there :
@@ -205,15 +222,7 @@ module _ (n : ℕ) (t : List ℕ) (sound : Sound n t) where
           → (l : List ℕ) × Ladder n t b a l
       go (yes back) later = (
         a ∷ [],
-        Ladder.end (record {
-          below = ha .below;
-          equal = (back, u);
-          lowest = λ c hc e.
-              ha .lowest c hc (
-                through (ha .below) hb hc u (e .0),
-                through hc hb (ha .below) (e .1) back,
-              );
-        }),
+        Ladder.end (head-of-equal hb ha u back),
       )
       go (no back) later =
           let r = rung-there hb ha u back in

@@ -1,6 +1,6 @@
 -- Refusals 1 to 4: what holds where none of them is due, and that there is a first one or none.
 -- Assumes nothing.
-use mathlib.Core.Path.{refl}
+use mathlib.Core.Path.{_≡_, refl, subst}
 use mathlib.Core.Logic.{_≢_, _⊎_, inl, inr, ⊎-elim}
 use mathlib.Core.List.{List, []}
 use Prim.Native.Nat.{ℕ, _+_, _*_, _-_, _≤_, _<_}
@@ -47,6 +47,9 @@ standing-passed own {s} {t} (inr (p, inr (q, inr (r, inr (v, w))))) = (
   where
     some : 1 ≤ s .classes
     some = stable (decLe 1 (s .classes)) (λ z. p (inl (omega arith)))
+
+pub stood : (s : Session) (t : List ℕ) (k : ℕ) → First (standing s t []) k → k ≡ 0 → Stands s t
+stood s t k h e = standing-passed [] (subst (λ (number : ℕ). First (standing s t []) number) e h) .0
 
 pub stands-first :
     (own : List Condition) {s : Session} {t : List ℕ} {k : ℕ} → Stands s t → First (standing s t own) k → First own k

@@ -32,7 +32,15 @@ module _ {n : ℕ} {t : List ℕ} (sound : Sound n t) where
   no-triangle =
       record {
         one-way = λ d e. not-back d (e .under);
-        no-shortcut = λ {a} {b} {c} d e f. f .alone b (d .to) (λ z. d .differ (sym z)) (e .differ) (d .under) (e .under);
+        no-shortcut = λ {a} {b} {c} d e f.
+            f .alone b
+            (record {
+              head = d .to;
+              not-lower = λ z. d .differ (sym z);
+              not-upper = e .differ;
+              above = d .under;
+              under = e .under;
+            });
         no-round = λ {a} {b} {c} d e f.
             not-back d (sound .transitive b c a (d .to .below) (e .to .below) (d .from .below) (e .under) (f .under));
       }

@@ -32,13 +32,21 @@ pub record HeadOf (n : ℕ) (t : List ℕ) (a h : ℕ) : Type 0 where
 abbrev pub Head : ℕ → List ℕ → ℕ → Type 0
 Head n t h = HeadOf n t h h
 
+-- "third head c has a under c and c under b"
+pub record Third (n : ℕ) (t : List ℕ) (a b c : ℕ) : Type 0 where
+  pub head : Head n t c
+  pub not-lower : c ≢ a
+  pub not-upper : c ≢ b
+  pub above : Under n t a c
+  pub under : Under n t c b
+
 -- "A direct step from head a to head b: a is under b, they differ, and no third head c has a under c and c under b."
 pub record Direct (n : ℕ) (t : List ℕ) (a b : ℕ) : Type 0 where
   pub from : Head n t a
   pub to : Head n t b
   pub under : Under n t a b
   pub differ : a ≢ b
-  pub alone : (c : ℕ) → Head n t c → c ≢ a → c ≢ b → Under n t a c → Under n t c b → ⊥
+  pub alone : (c : ℕ) → ¬ Third n t a b c
 
 -- "n heads, a byte each in class order"
 pub record HeadsOf (n : ℕ) (t hs : List ℕ) : Type 0 where

@@ -42,3 +42,9 @@ pub const OVERCOUNTED: u8 = 4;
 pub const NO_SUCH_CLASS: u8 = 5;
 
 pub const CONTRADICTED: u8 = 6;
+
+pub const STILL_OPEN: u8 = 7;
+
+pub const NO_ROOM: u8 = 8;
+
+pub const NOT_UNDER: u8 = 9;

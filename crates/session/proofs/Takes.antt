@@ -15,12 +15,8 @@ use Rattle.promise.specs.Tell.{Kind, adds, tellRefusals, Took}
 use Rattle.promise.proofs.Standing.{Stands, first-stands}
 use Rattle.promise.proofs.Replies.{replies-refused}
 use Rattle.promise.proofs.Tell.{agreeing-took}
-use Rattle.table.specs.Shape.{Shape, Takes, TakenIn}
+use Rattle.table.specs.Shape.{Takes, TakenIn}
 use Rattle.session.specs.Facts.{factOn, kindOf, countOf, replyOf, Judged}
-
--- the table of a session for which none of the refusals 1 to 4 is due has its shape
-pub shaped : {s : Session} {t : List ℕ} → Stands s t → Shape (s .classes) t
-shaped st = record { few = st .few; room = st .room }
 
 module _ (kind : Kind) {s : Session} {t : List ℕ} (st : Stands s t) (lower upper : ℕ) where
   -- 5: a class number is n or more

@@ -13,6 +13,8 @@ use lib.Dec.{eqb}
 use lib.ListN.{getD, set, length-set}
 use lib.Seq.{getD-set-same, getD-set-other}
 use Rattle.order.specs.Tables.{mark, SameRest}
+use Rattle.promise.specs.declared.Session.{Session}
+use Rattle.promise.proofs.Standing.{Stands}
 use Rattle.table.specs.Shape.{Shape, IndexOf}
 
 -- at most 128 * 128 marks
@@ -43,6 +45,10 @@ reads t at = ap (λ (k : ℕ). getD t k 0) (sym (at .is))
 -- the test of that byte is a test of the mark
 pub tested : {n a b i : ℕ} (m : ℕ) (t : List ℕ) → IndexOf n a b i → (eqb (getD t i 0) m ≡ true) ↔ (mark n t a b ≡ m)
 tested m t at = (λ e. reads t at ∙ eqb-true _ _ e, λ e. eq-eqb _ _ (sym (reads t at) ∙ e))
+
+-- the table of a session for which none of the refusals 1 to 4 is due has its shape
+pub shaped : {s : Session} {t : List ℕ} → Stands s t → Shape (s .classes) t
+shaped st = record { few = st .few; room = st .room }
 
 -- a table keeps its shape where its length stays
 pub shape-kept : {n : ℕ} {t t′ : List ℕ} → Shape n t → SameRest n t t′ → Shape n t′

@@ -1,3 +1,4 @@
+pub mod Answers
 pub mod Index
 pub mod Upto
 pub mod Pass

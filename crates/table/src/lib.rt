@@ -11,6 +11,8 @@ pub use marks::count_open;
 pub use marks::first_open;
 pub use marks::fresh_marks;
 pub use marks::mark_of;
+pub use marks::under;
+pub use refusals::refused;
 pub use refusals::standing;
 
 // The three marks, and the bytes that they are.

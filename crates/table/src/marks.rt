@@ -4,6 +4,8 @@ use crate::OPEN;
 use crate::YES;
 use promise::Question;
 ghost use mathlib.Core.Path.{_≡_};
+ghost use mathlib.Core.Logic.{_↔_};
+ghost use mathlib.Core.Bool.{true};
 ghost use Prim.Native.Nat.{_*_, _<_, _≤_};
 ghost use lib.ListN.{length};
 ghost use Rattle.order.specs.Tables.{mark, opens};
@@ -32,6 +34,15 @@ pub fn mark_of(n: usize, table: &[u8], a: usize, b: usize) -> Mark
         return Mark::Yes;
     }
     Mark::No
+}
+
+// Whether a is marked as under b.
+pub fn under(n: usize, table: &[u8], a: usize, b: usize) -> bool
+    requires { ⌜ (Shape n (now table)) × (a < n) × (b < n) ⌝ }
+    ensures { λ r. ⌜ (r ≡ true) ↔ (mark n (now (table .entry)) a b ≡ 1) ⌝ }
+{
+    let i = index(n, a, b);
+    table[i] == YES
 }
 
 // The first k bytes become open marks.

@@ -7,8 +7,11 @@ use promise::NOT_SOUND;
 use promise::OVERCOUNTED;
 use promise::SHORT_TABLE;
 use promise::Session;
+use promise::Wrote;
+ghost use mathlib.Core.Path.{_≡_};
 ghost use mathlib.Core.List.{[]};
 ghost use Rattle.order.specs.Refusals.{First};
+ghost use Rattle.promise.specs.declared.Wrote.the-variants.{Refused};
 ghost use Rattle.promise.specs.Refusals.{standing};
 
 // The first of the refusals 1 to 4 that is due, 0 if none is.
@@ -40,4 +43,14 @@ pub fn standing(session: Session, table: &[u8]) -> u8
         return OVERCOUNTED;
     }
     0
+}
+
+// A call that writes to a buffer is refused, outside books, where the place is 0.
+pub fn refused(number: u8) -> Wrote
+    ensures { λ r. ⌜ r ≡ Refused number 0 ⌝ }
+{
+    Wrote::Refused {
+        number: number,
+        place: 0,
+    }
 }

@@ -1,41 +1,15 @@
-// The worked marks of document 01 for fresh, tell, answer and next, run one by one. The stored output is worked out by hand from those
-// marks and 01's rules. It is not taken from this program.
+// The worked marks of document 01, run one by one. The stored output is worked out by hand from those marks and 01's rules. It is not
+// taken from this program.
+mod calls;
 mod print;
+mod settled;
 
+use calls::answer;
+use calls::fresh;
+use calls::fresh_large;
+use calls::tell;
 use print::text;
-use promise::Reply;
 use promise::Session;
-
-// Calls fresh, and prints the call.
-fn begin(classes: usize, table: &mut [u8]) -> Reply {
-    let reply = session::fresh(classes, &mut *table);
-    text(b"fresh ");
-    print::number(classes);
-    text(b": ");
-    reply
-}
-
-fn fresh(classes: usize, table: &mut [u8]) -> Session {
-    let reply = begin(classes, &mut *table);
-    print::line(reply, &*table);
-    reply.session
-}
-
-fn tell(session: Session, table: &mut [u8], lower: usize, upper: usize, holds: bool) -> Session {
-    let reply = session::tell(session, &mut *table, lower, upper, holds);
-    text(b"tell ");
-    print::fact(lower, upper, holds);
-    print::line(reply, &*table);
-    reply.session
-}
-
-fn answer(session: Session, table: &mut [u8], lower: usize, upper: usize, holds: bool) -> Session {
-    let reply = session::answer(session, &mut *table, lower, upper, holds);
-    text(b"answer ");
-    print::fact(lower, upper, holds);
-    print::line(reply, &*table);
-    reply.session
-}
 
 // P1 to P5.
 fn a_no_then_a_yes() {
@@ -84,13 +58,6 @@ fn counted_once() {
     let counted = answer(begun, &mut table, 0, 1, true);
     let again = answer(counted, &mut table, 0, 1, true);
     answer(again, &mut table, 0, 1, false);
-}
-
-// The marks are too many to print: the count of open ones stands for them.
-fn fresh_large(classes: usize, table: &mut [u8]) {
-    let reply = begin(classes, &mut *table);
-    print::reply(reply, &*table);
-    text(b"\n");
 }
 
 fn class_counts() {
@@ -148,4 +115,9 @@ fn main() {
     table_lengths();
     no_such_class();
     not_standing();
+    settled::top_group();
+    settled::bottom_group();
+    settled::two_ways();
+    settled::one_class();
+    settled::refused();
 }

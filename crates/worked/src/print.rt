@@ -1,7 +1,8 @@
-// One line a call: what it replied, how many marks are open, what next asks, and the marks row by row.
+// What a call gave: its reply, how many marks are open, what next asks, and the marks row by row; or a count and the bytes of a buffer.
 use libc::STDOUT_FILENO;
 use promise::Question;
 use promise::Reply;
+use promise::Wrote;
 
 pub fn text(words: &[u8]) {
     io::write_all(STDOUT_FILENO, words);
@@ -15,6 +16,13 @@ fn byte(x: u8) {
     io::print_decimal(STDOUT_FILENO, x as u64);
 }
 
+// Two class numbers.
+pub fn pair(a: usize, b: usize) {
+    number(a);
+    text(b" ");
+    number(b);
+}
+
 // A fact as its call is given it.
 pub fn fact(lower: usize, upper: usize, holds: bool) {
     if holds {
@@ -22,10 +30,26 @@ pub fn fact(lower: usize, upper: usize, holds: bool) {
     } else {
         text(b"no ");
     }
-    number(lower);
-    text(b" ");
-    number(upper);
+    pair(lower, upper);
     text(b": ");
+}
+
+fn refusal(why: u8, place: usize) {
+    text(b" refused ");
+    byte(why);
+    text(b" place ");
+    number(place);
+}
+
+// What hierarchy and ladder give.
+pub fn wrote(given: Wrote) {
+    match given {
+        Wrote::Count(count) => {
+            text(b" count ");
+            number(count);
+        }
+        Wrote::Refused { number: why, place } => refusal(why, place),
+    }
 }
 
 // What next gives.
@@ -33,16 +57,12 @@ fn question(asked: Question) {
     match asked {
         Question::Ask { lower, upper } => {
             text(b" next ask ");
-            number(lower);
-            text(b" ");
-            number(upper);
+            pair(lower, upper);
         }
         Question::Done => text(b" next done"),
         Question::Refused { number: why, place } => {
-            text(b" next refused ");
-            byte(why);
-            text(b" place ");
-            number(place);
+            text(b" next");
+            refusal(why, place);
         }
     }
 }
@@ -68,6 +88,20 @@ fn marks(n: usize, table: &[u8]) {
     let mut i: usize = 0;
     while i < table.len() {
         mark(n, i, table[i]);
+        i += 1;
+    }
+}
+
+fn spaced(x: u8) {
+    text(b" ");
+    byte(x);
+}
+
+// All bytes of a buffer, a space before each.
+pub fn bytes(buffer: &[u8]) {
+    let mut i: usize = 0;
+    while i < buffer.len() {
+        spaced(buffer[i]);
         i += 1;
     }
 }

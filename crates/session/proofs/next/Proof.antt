@@ -10,8 +10,8 @@ use Rattle.promise.specs.declared.Question.the-variants.{Ask, Done, Refused}
 use Rattle.promise.specs.Refusals.{standing}
 use Rattle.promise.specs.Next.{Says, numberOf, Asked}
 use mathlib.Core.List.{[]}
-use Rattle.promise.proofs.Standing.{standing-passed}
-use Rattle.session.proofs.Takes.{shaped}
+use Rattle.promise.proofs.Standing.{stood}
+use Rattle.table.proofs.Index.{shaped}
 use borrow.Author.Needs.{needs}
 use Rattle.session.proofs.next.Statement.{statement}
 use Rattle.session.proofs.next.Tie as tie
@@ -33,7 +33,7 @@ returns : tie.Need-returns
 returns c = search needs
 
 first-open-requires : tie.Need-first-open-requires
-first-open-requires c κs = shaped (standing-passed [] (none _ _ _ (c .before .standing .ensures) (c .if1 .left)) .0)
+first-open-requires c κs = shaped (stood _ _ _ (c .before .standing .ensures) (c .if1 .left))
 
 returns-2 : tie.Need-returns-2
 returns-2 c =

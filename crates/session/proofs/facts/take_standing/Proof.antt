@@ -1,23 +1,15 @@
 -- `session::facts::take_standing` meets its contract: by class numbers, then by the mark.
 -- Assumes nothing.
-use mathlib.Core.Path.{_∙_, ap}
+use mathlib.Core.Path.{refl, _∙_, ap}
 use mathlib.Core.Logic.{inl, inr}
-use mathlib.Core.List.{List, []}
-use Prim.Native.Nat.{ℕ}
 use native.Mathlib.Omega.{arith}
-use Rattle.order.specs.Refusals.{First}
-use Rattle.promise.specs.declared.Session.{Session}
-use Rattle.promise.specs.Refusals.{standing}
-use Rattle.promise.proofs.Standing.{Stands, standing-passed}
+use Rattle.promise.proofs.Standing.{stood}
 use Rattle.table.specs.Shape.{Takes, byteOf}
-use Rattle.table.proofs.Index.{square}
-use Rattle.session.proofs.Takes.{shaped, no-such-class, judged-yes, judged-no, open-taken}
+use Rattle.table.proofs.Index.{square, shaped}
+use Rattle.session.proofs.Takes.{no-such-class, judged-yes, judged-no, open-taken}
 use borrow.Author.Needs.{needs}
 use Rattle.session.proofs.facts.take_standing.Statement.{statement}
 use Rattle.session.proofs.facts.take_standing.Tie as tie
-
-stood : (s : Session) (t : List ℕ) → First (standing s t []) 0 → Stands s t
-stood s t h = standing-passed [] h .0
 
 refused-requires : tie.Need-refused-requires
 refused-requires c κs = search needs
@@ -25,7 +17,7 @@ refused-requires c κs = search needs
 returns : tie.Need-returns
 returns c =
     let start = c .before .before .before in
-    rw (c .refused .ensures) (no-such-class _ (stood _ _ (start .pre)) _ _ _ (inl (c .before .if1 .taken)))
+    rw (c .refused .ensures) (no-such-class _ (stood _ _ 0 (start .pre) refl) _ _ _ (inl (c .before .if1 .taken)))
 
 refused-requires-2 : tie.Need-refused-requires-2
 refused-requires-2 c κs = search needs
@@ -33,12 +25,12 @@ refused-requires-2 c κs = search needs
 returns-2 : tie.Need-returns-2
 returns-2 c =
     let start = c .before .before .before .before in
-    rw (c .refused2 .ensures) (no-such-class _ (stood _ _ (start .pre)) _ _ _ (inr (c .before .if2 .taken)))
+    rw (c .refused2 .ensures) (no-such-class _ (stood _ _ 0 (start .pre) refl) _ _ _ (inr (c .before .if2 .taken)))
 
 mark-of-requires : tie.Need-mark-of-requires
 mark-of-requires c κs =
     let start = c .before .before .before .before in
-    let st = stood _ _ (start .pre) in
+    let st = stood _ _ 0 (start .pre) refl in
     (shaped st, c .before .before .if1 .left, c .before .if2 .left, st .sound .small _ _ (c .before .before .if1 .left) (c .before .if2 .left))
 
 enum-told : tie.Need-enum-told
@@ -64,7 +56,7 @@ opened :
 opened e =
     let known = e .before .before in
     let start = known .before .before .before .before .before in
-    let st = stood _ _ (start .pre) in
+    let st = stood _ _ 0 (start .pre) refl in
     record {
       shape = shaped st;
       sound = st .sound;
@@ -79,7 +71,7 @@ take-in-requires c κs = opened (c .before)
 tested-requires : tie.Need-tested-requires
 tested-requires c κs =
     let start = c .before .before .before .before .before .before .before .before .before .before .before in
-    let st = stood _ _ (start .pre) in
+    let st = stood _ _ 0 (start .pre) refl in
     omega (arith, st .count, square _ (st .few), st .some)
 
 accepted-requires : tie.Need-accepted-requires
@@ -92,7 +84,7 @@ returns-3 : tie.Need-returns-3
 returns-3 c =
     let known = c .before .before .before in
     let start = known .before .before .before .before .before in
-    judged-yes _ (stood _ _ (start .pre)) _ _ (known .before .before .before .if1 .left) (known .before .before .if2 .left) _
+    judged-yes _ (stood _ _ 0 (start .pre) refl) _ _ (known .before .before .before .if1 .left) (known .before .before .if2 .left) _
     (known .mark-of .ensures ∙ ap byteOf (c .before .enum-told .given .1)) (c .judge .ensures)
 
 same-length-2 : tie.Need-same-length-2
@@ -102,7 +94,7 @@ returns-4 : tie.Need-returns-4
 returns-4 c =
     let known = c .before .before .before in
     let start = known .before .before .before .before .before in
-    judged-no _ (stood _ _ (start .pre)) _ _ (known .before .before .before .if1 .left) (known .before .before .if2 .left) _
+    judged-no _ (stood _ _ 0 (start .pre) refl) _ _ (known .before .before .before .if1 .left) (known .before .before .if2 .left) _
     (known .mark-of .ensures ∙ ap byteOf (c .before .enum-told2 .given .1)) (c .judge2 .ensures)
 
 same-length-3 : tie.Need-same-length-3
@@ -114,7 +106,7 @@ returns-5 c =
     let open-pair = taken .before .before in
     let start = open-pair .before .before .before .before .before .before .before in
     rw (c .accepted .ensures, c .before .tested .ensures)
-    (open-taken (start .args .counts) (start .args .holds) (start .args .session) (start .args .table .now) _ _ _ (stood _ _ (start .pre))
+    (open-taken (start .args .counts) (start .args .holds) (start .args .session) (start .args .table .now) _ _ _ (stood _ _ 0 (start .pre) refl)
     (opened open-pair) (taken .take-in .ensures))
 
 pub take-standing-spec : {M : Type 1} → statement M

@@ -1,0 +1,5 @@
+pub mod Seek
+pub mod Found
+pub mod Noting
+pub mod Climbing
+pub mod Outcomes

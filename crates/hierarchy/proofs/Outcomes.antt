@@ -1,0 +1,198 @@
+-- What each way out of hierarchy and ladder owes.
+-- Assumes nothing.
+use mathlib.Core.Path.{_≡_, refl, sym, _∙_, ap}
+use mathlib.Core.Logic.{_≢_, _⊎_, inl, inr, ⊎-elim}
+use mathlib.Core.List.{List, [], _∷_, _++_}
+use Prim.Native.Nat.{ℕ, suc, _*_, _≤_, _<_}
+use native.Mathlib.Omega.{arith}
+use lib.ListN.{length, getD, take, drop}
+use lib.Seq.{length-take-le, getD-take}
+use Rattle.order.specs.Tables.{mark, Sound, opens}
+use Rattle.order.specs.Pairs.{Pair, bytesOf}
+use Rattle.order.specs.Refusals.{Condition, First}
+use Rattle.order.proofs.Pairs.{lists-unique, length-bytes}
+use Rattle.promise.specs.declared.Session.{Session}
+use Rattle.promise.specs.declared.Wrote.{Wrote}
+use Rattle.promise.specs.declared.Wrote.the-variants.{Count, Refused}
+use Rattle.promise.specs.Refusals.{standing}
+use Rattle.promise.specs.Buffers.{over, TooShort, Writes}
+use Rattle.promise.specs.Hierarchy.{Under, HeadOf, HeadsOf, StepsOf, StepBytes, hierarchyRefusals, HierarchyWritten}
+use Rattle.promise.specs.Ladder.{LadderOf, ladderRefusals, LadderWritten}
+use Rattle.promise.proofs.Standing.{Stands, standing-refused, first-stands}
+use Rattle.promise.proofs.Buffers.{writes-refused}
+use Rattle.promise.proofs.Hierarchy.{head-head, step-bytes-unique}
+use Rattle.promise.proofs.Ladder.{number-most, to-go, through, ladder-unique}
+use Rattle.table.specs.Shape.{Shape}
+use Rattle.hierarchy.specs.Found.{Ordered, Found, Noted, StepsNoted, HierarchyLeft, Climbs, LadderLeft, Reached, Climbed}
+
+-- nothing lent, nothing written
+pub lent-none : (l out : List ℕ) → length l ≡ 0 → l ++ out ≡ out
+lent-none [] out e = refl
+lent-none (x ∷ l) out e = absurd (omega arith)
+
+-- the first n bytes found are the heads
+pub heads-of : {n : ℕ} {t found : List ℕ} → Found n t found → HeadsOf n t (take n found)
+heads-of {n} {t} {found} f =
+    record {
+      size = length-take-le n found (f .room);
+      at = λ a h. rw (getD-take n found a 0 h) (f .at a h);
+    }
+
+module _ {n : ℕ} {t heads steps : List ℕ} where
+  too-short :
+      TooShort (HeadsOf n t) heads ⊎ TooShort (StepBytes n t) steps → HierarchyLeft n t heads steps (Refused 8 0) heads steps
+  too-short short = record { number = inl (short, refl); place = refl; buffers = (λ e. omega arith, refl, refl) }
+
+  pub heads-short :
+      {found : List ℕ} → Found n t found → length heads < n → HierarchyLeft n t heads steps (Refused 8 0) heads steps
+  heads-short {found} f short = let hs = heads-of f in too-short (inl (take n found, hs, omega (arith, hs .size)))
+
+  pub steps-short :
+      {out out′ : List ℕ} {count : ℕ} → StepsNoted n t out count out′ → length steps < 2 * count
+      → HierarchyLeft n t heads steps (Refused 8 0) heads steps
+  steps-short (l, p, noted) short =
+      too-short (inr (bytesOf l, (l, p, refl), omega (arith, noted .counted, length-bytes l)))
+
+  pub hierarchy-done :
+      {found heads′ out out′ steps′ : List ℕ} {count count₂ : ℕ} → Found n t found → n ≤ length heads
+      → heads′ ≡ over (take n found) heads → StepsNoted n t out count out′ → 2 * count ≤ length steps
+      → StepsNoted n t steps count₂ steps′ → HierarchyLeft n t heads steps (Count count) heads′ steps′
+  hierarchy-done {found} {heads′} {out} {out′} {steps′} {count} {count₂} f many written (l, p, counted) room (l₂, p₂, noted) =
+      record {
+        number = inr (fits, refl);
+        place = refl;
+        buffers = (
+          (take n found, heads-of f, written),
+          (l₂, p₂, counted .counted ∙ ap (λ (m : List Pair). length m) same, noted .written (omega (arith, length-bytes l₂, all))),
+        );
+      }
+    where
+      same : l ≡ l₂
+      same = lists-unique p p₂
+
+      all : count ≡ length l₂
+      all = counted .counted ∙ ap (λ (m : List Pair). length m) same
+
+      fits : ¬ (TooShort (HeadsOf n t) heads ⊎ TooShort (StepBytes n t) steps)
+      fits (inl (hs, h, short)) = omega (arith, h .size)
+      fits (inr (w, h, short)) =
+          omega (arith, ap (λ (u : List ℕ). length u) (step-bytes-unique w (bytesOf l₂) h (l₂, p₂, refl)), length-bytes l₂, all)
+
+-- a climb from the head of a starts with no rung before it
+pub start-reached : {n : ℕ} {t heads : List ℕ} {a b : ℕ} → Found n t heads → Climbs n t a b → Reached n t b (getD heads a 0) 0
+start-reached {n} {t} {heads} {a} {b} f c =
+    let sound = f .ordered .sound in
+    let h = f .at a (c .lower-below) in
+    let left = to-go n t b (getD heads a 0) in
+    record {
+      goal-below = c .upper-below;
+      head = head-head n t sound (c .lower-below) h;
+      under = through n t sound (h .below) (c .lower-below) (c .upper-below) (h .equal .1) (c .under);
+      left = left .0;
+      number = left .1;
+      few = omega (arith, number-most (left .1));
+    }
+
+module _
+    {n : ℕ} {t : List ℕ} {a b start : ℕ} {out : List ℕ} {count : ℕ} {out′ : List ℕ} (c : Climbs n t a b)
+    (h : HeadOf n t a start) (k : Climbed n t b start 0 out count out′) (size : length out′ ≡ length out)
+  where
+    from-start : LadderOf n t a b (k .rungs)
+    from-start = record { start = start; head = h; rungs = k .ladder }
+
+    pub ladder-short : length out′ < count → LadderLeft n t a b out (Refused 8 0) out′
+    ladder-short short =
+        record {
+          number = inl ((k .rungs, from-start, omega (arith, k .counted)), refl);
+          place = refl;
+          buffer = (λ e. omega arith, k .unwritten (omega arith));
+        }
+
+    pub ladder-done : count ≤ length out′ → LadderLeft n t a b out (Count count) out′
+    ladder-done room =
+        record {
+          number = inr (fits, refl);
+          place = refl;
+          buffer = (
+            k .rungs,
+            from-start,
+            all,
+            k .written (omega arith) ∙ ap (λ (m : ℕ). k .rungs ++ drop m out) all,
+          );
+        }
+      where
+        all : count ≡ length (k .rungs)
+        all = omega (arith, k .counted)
+
+        fits : ¬ TooShort (LadderOf n t a b) out
+        fits (l, p, short) =
+            omega (
+              arith,
+              ap (λ (u : List ℕ). length u) (ladder-unique n t (c .ordered .sound) (c .upper-below) l (k .rungs) p from-start),
+            )
+
+-- the calls
+
+module _ (s : Session) (t heads steps : List ℕ) where
+  hierarchy-refused :
+      {k : ℕ} → First (standing s t (hierarchyRefusals s t heads steps)) k → k ≢ 0
+      → HierarchyWritten s t heads steps (Refused k 0) heads steps
+  hierarchy-refused f e = record { number = f; place = refl; buffers = (e, refl, refl) }
+
+  pub hierarchy-standing :
+      (k : ℕ) → First (standing s t []) k → k ≢ 0 → HierarchyWritten s t heads steps (Refused k 0) heads steps
+  hierarchy-standing k f e = hierarchy-refused (standing-refused (hierarchyRefusals s t heads steps) s t k f e) e
+
+  pub hierarchy-open :
+      Stands s t → opens (s .classes) t ≢ 0 → HierarchyWritten s t heads steps (Refused 7 0) heads steps
+  hierarchy-open st e =
+      hierarchy-refused (first-stands (hierarchyRefusals s t heads steps) st (inl (omega arith, refl))) (λ z. omega arith)
+
+  pub hierarchy-left :
+      {r : Wrote} {heads′ steps′ : List ℕ} → Stands s t → opens (s .classes) t ≡ 0
+      → HierarchyLeft (s .classes) t heads steps r heads′ steps′ → HierarchyWritten s t heads steps r heads′ steps′
+  hierarchy-left st e h =
+      record {
+        number = first-stands (hierarchyRefusals s t heads steps) st (inr (λ z. omega arith, h .number));
+        place = h .place;
+        buffers = h .buffers;
+      }
+
+module _ (s : Session) (t : List ℕ) (a b : ℕ) (out : List ℕ) where
+  ladder-refused :
+      {k : ℕ} → First (standing s t (ladderRefusals s t a b out)) k → k ≢ 0 → LadderWritten s t a b out (Refused k 0) out
+  ladder-refused = writes-refused (standing s t (ladderRefusals s t a b out)) (LadderOf (s .classes) t a b) out
+
+  pub ladder-standing : (k : ℕ) → First (standing s t []) k → k ≢ 0 → LadderWritten s t a b out (Refused k 0) out
+  ladder-standing k f e = ladder-refused (standing-refused (ladderRefusals s t a b out) s t k f e) e
+
+  ladder-own :
+      {k : ℕ} → Stands s t → First (ladderRefusals s t a b out) k → k ≢ 0 → LadderWritten s t a b out (Refused k 0) out
+  ladder-own st f e = ladder-refused (first-stands (ladderRefusals s t a b out) st f) e
+
+  pub ladder-no-class :
+      Stands s t → (s .classes ≤ a) ⊎ (s .classes ≤ b) → LadderWritten s t a b out (Refused 5 0) out
+  ladder-no-class st h = ladder-own st (inl (h, refl)) (λ z. omega arith)
+
+  module _ (st : Stands s t) (ha : a < s .classes) (hb : b < s .classes) where
+    below : ¬ ((s .classes ≤ a) ⊎ (s .classes ≤ b))
+    below = ⊎-elim (λ z. omega arith) (λ z. omega arith)
+
+    pub ladder-open : opens (s .classes) t ≢ 0 → LadderWritten s t a b out (Refused 7 0) out
+    ladder-open e = ladder-own st (inr (below, inl (omega arith, refl))) (λ z. omega arith)
+
+    module _ (settled : opens (s .classes) t ≡ 0) where
+      pub ladder-none : ¬ Under (s .classes) t a b → LadderWritten s t a b out (Refused 9 0) out
+      ladder-none u = ladder-own st (inr (below, inr (λ z. omega arith, inl (u, refl)))) (λ z. omega arith)
+
+      pub ladder-left :
+          {r : Wrote} {out′ : List ℕ} → Under (s .classes) t a b → LadderLeft (s .classes) t a b out r out′
+          → LadderWritten s t a b out r out′
+      ladder-left u h =
+          record {
+            number =
+                first-stands (ladderRefusals s t a b out) st
+                (inr (below, inr (λ z. omega arith, inr (λ z. z u, h .number))));
+            place = h .place;
+            buffer = h .buffer;
+          }

@@ -1,0 +1,51 @@
+// Groups and direct steps.
+use crate::heads::find_heads;
+use crate::heads::write_heads;
+use crate::steps::list_steps;
+use promise::MOST_CLASSES;
+use promise::NO_ROOM;
+use promise::STILL_OPEN;
+use promise::Session;
+use promise::Wrote;
+use table::count_open;
+use table::refused;
+use table::standing;
+ghost use Rattle.promise.specs.Hierarchy.{HierarchyWritten};
+ghost use Rattle.hierarchy.specs.Found.{Ordered, HierarchyLeft};
+
+// The heads and the direct steps. The steps are counted before any byte is written.
+fn write_hierarchy(n: usize, table: &[u8], heads: &mut [u8], steps: &mut [u8]) -> Wrote
+    requires { ⌜ Ordered n (now table) ⌝ }
+    ensures { λ r. ⌜ HierarchyLeft n (now (table .entry)) (now (heads .entry)) (now (steps .entry)) r
+        (now (heads .exit)) (now (steps .exit)) ⌝ }
+{
+    let mut found: [u8; MOST_CLASSES] = [0; MOST_CLASSES];
+    find_heads(n, table, &mut found[..]);
+    let count = list_steps(n, table, &found[..], &mut steps[..0]);
+    if heads.len() < n {
+        return refused(NO_ROOM);
+    }
+    if steps.len() < 2 * count {
+        return refused(NO_ROOM);
+    }
+    write_heads(n, &found[..], heads);
+    list_steps(n, table, &found[..], steps);
+    Wrote::Count(count)
+}
+
+// The head of each class to one buffer, and the direct steps to the other. Gives the count of steps.
+pub fn hierarchy(session: Session, table: &[u8], heads: &mut [u8], steps: &mut [u8]) -> Wrote
+    ensures { λ r. ⌜ HierarchyWritten session (now (table .entry)) (now (heads .entry)) (now (steps .entry)) r
+        (now (heads .exit)) (now (steps .exit)) ⌝ }
+{
+    let number = standing(session, table);
+    if number != 0 {
+        return refused(number);
+    }
+    let n = session.classes;
+    let open = count_open(n, table);
+    if open != 0 {
+        return refused(STILL_OPEN);
+    }
+    write_hierarchy(n, table, heads, steps)
+}

@@ -1,0 +1,57 @@
+// Ladders.
+use crate::heads::find_heads;
+use crate::rungs::climb;
+use promise::MOST_CLASSES;
+use promise::NO_ROOM;
+use promise::NO_SUCH_CLASS;
+use promise::NOT_UNDER;
+use promise::STILL_OPEN;
+use promise::Session;
+use promise::Wrote;
+use table::count_open;
+use table::refused;
+use table::standing;
+use table::under;
+ghost use Rattle.promise.specs.Ladder.{LadderWritten};
+ghost use Rattle.hierarchy.specs.Found.{Climbs, LadderLeft};
+
+// The ladder from a to b.
+fn write_ladder(n: usize, table: &[u8], a: usize, b: usize, rungs: &mut [u8]) -> Wrote
+    requires { ⌜ Climbs n (now table) a b ⌝ }
+    ensures { λ r. ⌜ LadderLeft n (now (table .entry)) a b (now (rungs .entry)) r (now (rungs .exit)) ⌝ }
+{
+    let mut heads: [u8; MOST_CLASSES] = [0; MOST_CLASSES];
+    find_heads(n, table, &mut heads[..]);
+    let start = heads[a] as usize;
+    let count = climb(n, table, &heads[..], b, start, 0, &mut *rungs);
+    if rungs.len() < count {
+        return refused(NO_ROOM);
+    }
+    Wrote::Count(count)
+}
+
+// The ladder from a to b. Gives the count of rungs.
+pub fn ladder(session: Session, table: &[u8], a: usize, b: usize, rungs: &mut [u8]) -> Wrote
+    ensures { λ r. ⌜ LadderWritten session (now (table .entry)) a b (now (rungs .entry)) r (now (rungs .exit)) ⌝ }
+{
+    let number = standing(session, table);
+    if number != 0 {
+        return refused(number);
+    }
+    let n = session.classes;
+    if n <= a {
+        return refused(NO_SUCH_CLASS);
+    }
+    if n <= b {
+        return refused(NO_SUCH_CLASS);
+    }
+    let open = count_open(n, table);
+    if open != 0 {
+        return refused(STILL_OPEN);
+    }
+    let up = under(n, table, a, b);
+    if !up {
+        return refused(NOT_UNDER);
+    }
+    write_ladder(n, table, a, b, rungs)
+}
