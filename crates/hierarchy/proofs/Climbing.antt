@@ -2,13 +2,12 @@
 -- Assumes nothing.
 use mathlib.Core.Path.{_≡_, refl, sym, _∙_, ap}
 use mathlib.Core.List.{List, [], _∷_, _++_}
-use Prim.Native.Nat.{ℕ, suc, _+_, _≤_, _<_}
+use Prim.Native.Nat.{ℕ, _+_, _≤_, _<_}
 use native.Mathlib.Numerals.{add-one}
 use native.Mathlib.Omega.{arith}
-use lib.ListN.{length, getD, set, take, drop, length-set, take-append-drop}
+use lib.ListN.{length, getD, set, take, drop, take-append-drop}
 use lib.Seq.{length-take-le, take-suc, append-snoc, set-append-left, set-at}
-use Rattle.order.specs.Tables.{Sound}
-use Rattle.promise.specs.Hierarchy.{HeadOf, Under}
+use Rattle.promise.specs.Hierarchy.{HeadOf}
 use Rattle.promise.specs.Ladder.{NextRung, Ladder}
 use Rattle.promise.proofs.Hierarchy.{head-unique}
 use Rattle.promise.proofs.Ladder.{to-go, rung-falls, head-of-equal}

@@ -5,7 +5,7 @@ use mathlib.Core.Logic.{_↔_}
 use mathlib.Core.List.{List}
 use Prim.Native.Nat.{ℕ, _<_}
 use lib.ListN.{getD}
-use Rattle.promise.specs.Hierarchy.{HeadOf, Head}
+use Rattle.promise.specs.Hierarchy.{Head}
 use Rattle.promise.proofs.Hierarchy.{head-unique}
 use Rattle.hierarchy.specs.Found.{Found}
 

@@ -1,5 +1,4 @@
 pub mod Seek
 pub mod Found
-pub mod Noting
 pub mod Climbing
 pub mod Outcomes

@@ -1,29 +1,28 @@
 -- What each way out of hierarchy and ladder owes.
 -- Assumes nothing.
-use mathlib.Core.Path.{_≡_, refl, sym, _∙_, ap}
+use mathlib.Core.Path.{_≡_, refl, _∙_, ap}
 use mathlib.Core.Logic.{_≢_, _⊎_, inl, inr, ⊎-elim}
 use mathlib.Core.List.{List, [], _∷_, _++_}
-use Prim.Native.Nat.{ℕ, suc, _*_, _≤_, _<_}
+use Prim.Native.Nat.{ℕ, _*_, _≤_, _<_}
 use native.Mathlib.Omega.{arith}
 use lib.ListN.{length, getD, take, drop}
 use lib.Seq.{length-take-le, getD-take}
-use Rattle.order.specs.Tables.{mark, Sound, opens}
+use Rattle.order.specs.Tables.{opens}
 use Rattle.order.specs.Pairs.{Pair, bytesOf}
-use Rattle.order.specs.Refusals.{Condition, First}
+use Rattle.order.specs.Refusals.{First}
 use Rattle.order.proofs.Pairs.{lists-unique, length-bytes}
 use Rattle.promise.specs.declared.Session.{Session}
 use Rattle.promise.specs.declared.Wrote.{Wrote}
 use Rattle.promise.specs.declared.Wrote.the-variants.{Count, Refused}
 use Rattle.promise.specs.Refusals.{standing}
-use Rattle.promise.specs.Buffers.{over, TooShort, Writes}
-use Rattle.promise.specs.Hierarchy.{Under, HeadOf, HeadsOf, StepsOf, StepBytes, hierarchyRefusals, HierarchyWritten}
+use Rattle.promise.specs.Buffers.{over, TooShort}
+use Rattle.promise.specs.Hierarchy.{Under, HeadOf, HeadsOf, StepBytes, hierarchyRefusals, HierarchyWritten}
 use Rattle.promise.specs.Ladder.{LadderOf, ladderRefusals, LadderWritten}
 use Rattle.promise.proofs.Standing.{Stands, standing-refused, first-stands}
 use Rattle.promise.proofs.Buffers.{writes-refused}
 use Rattle.promise.proofs.Hierarchy.{head-head, step-bytes-unique}
 use Rattle.promise.proofs.Ladder.{number-most, to-go, through, ladder-unique}
-use Rattle.table.specs.Shape.{Shape}
-use Rattle.hierarchy.specs.Found.{Ordered, Found, Noted, StepsNoted, HierarchyLeft, Climbs, LadderLeft, Reached, Climbed}
+use Rattle.hierarchy.specs.Found.{Found, StepsNoted, HierarchyLeft, Climbs, LadderLeft, Reached, Climbed}
 
 -- nothing lent, nothing written
 pub lent-none : (l out : List ℕ) → length l ≡ 0 → l ++ out ≡ out

@@ -6,7 +6,7 @@ use mathlib.Core.List.{List, [], _∷_, _++_}
 use Prim.Native.Nat.{ℕ, _+_, _≤_, _<_}
 use lib.ListN.{length, getD, take, drop}
 use Rattle.order.specs.Tables.{Sound}
-use Rattle.order.specs.Pairs.{Pair, bytesOf}
+use Rattle.order.specs.Pairs.{Pair}
 use Rattle.order.specs.Refusals.{First}
 use Rattle.promise.specs.declared.Wrote.{Wrote}
 use Rattle.promise.specs.Refusals.{noRoom}
@@ -14,6 +14,7 @@ use Rattle.promise.specs.Buffers.{numberOf, placeOf, over, TooShort, Writes}
 use Rattle.promise.specs.Hierarchy.{Under, HeadOf, Head, HeadsOf, StepsOf, StepBytes, HierarchyIn}
 use Rattle.promise.specs.Ladder.{Ladder, LadderOf, Above, Number}
 use Rattle.table.specs.Shape.{Shape}
+use Rattle.table.specs.Noted.{Noted}
 
 -- a sound table
 pub record Ordered (n : ℕ) (t : List ℕ) : Type 0 where
@@ -26,13 +27,7 @@ pub record Found (n : ℕ) (t heads : List ℕ) : Type 0 where
   pub room : n ≤ length heads
   pub at : (a : ℕ) → a < n → HeadOf n t a (getD heads a 0)
 
--- the pairs of l were counted, and they were written to the front of out if it has room for all of them
-pub record Noted (out : List ℕ) (l : List Pair) (count : ℕ) (out′ : List ℕ) : Type 0 where
-  pub counted : count ≡ length l
-  pub size : length out′ ≡ length out
-  pub written : length (bytesOf l) ≤ length out → out′ ≡ over (bytesOf l) out
-
--- the direct steps were
+-- the direct steps were counted, and written if there is room for all of them
 abbrev pub StepsNoted : ℕ → List ℕ → List ℕ → ℕ → List ℕ → Type 0
 StepsNoted n t out count out′ = (l : List Pair) × StepsOf n t l × Noted out l count out′
 

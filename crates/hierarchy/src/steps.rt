@@ -1,11 +1,11 @@
 // The direct steps.
 use crate::heads::is_head;
+use table::put_pair;
 use table::under;
 ghost use mathlib.Core.Path.{_≡_};
 ghost use mathlib.Core.Logic.{_↔_};
 ghost use mathlib.Core.Bool.{true};
-ghost use Prim.Native.Nat.{_+_, _<_, _≤_};
-ghost use lib.ListN.{length, set};
+ghost use Prim.Native.Nat.{_+_, _<_};
 ghost use Rattle.promise.specs.Hierarchy.{Third, Direct};
 ghost use Rattle.hierarchy.specs.Found.{Found, StepsNoted};
 
@@ -58,17 +58,6 @@ pub fn is_direct(n: usize, table: &[u8], heads: &[u8], a: usize, b: usize) -> bo
         }
     }
     true
-}
-
-// The pair is written from index at on, if there is room for it.
-fn put_pair(out: &mut [u8], at: usize, a: usize, b: usize)
-    requires { ⌜ (at ≤ 32768) × (a < 256) × (b < 256) ⌝ }
-    ensures { λ _. ⌜ (at + 2 ≤ length (now (out .entry)) → now (out .exit) ≡ set (set (now (out .entry)) at a) (at + 1) b) ⌝ }
-{
-    if at + 2 <= out.len() {
-        out[at] = a as u8;
-        out[at + 1] = b as u8;
-    }
 }
 
 // How many direct steps there are. They are written, two bytes each, ordered by a and then b, if there is room for all of them; an

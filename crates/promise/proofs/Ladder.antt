@@ -16,10 +16,10 @@ use Rattle.order.proofs.Refusals.{stage}
 use Rattle.promise.specs.declared.Session.{Session}
 use Rattle.promise.specs.declared.Wrote.{Wrote}
 use Rattle.promise.specs.Refusals.{standing}
-use Rattle.promise.specs.Buffers.{TooShort}
+use Rattle.promise.specs.Buffers.{numberOf, TooShort}
 use Rattle.promise.specs.Hierarchy.{Under, HeadOf, Head, Third, Direct}
 use Rattle.promise.specs.Ladder.{NextRung, Ladder, LadderOf, Above, Number, ladderRefusals, LadderWritten}
-use Rattle.promise.proofs.Standing.{Stands, standing-passed, standing-there, below-of}
+use Rattle.promise.proofs.Standing.{Stands, standing-own, standing-passed, standing-there, below-of}
 use Rattle.promise.proofs.Buffers.{too-short?, writes-unique, writes-there, writes-length}
 use Rattle.promise.proofs.Hierarchy.{head-unique, head-head, head-there, heads-equal, head?, under?, direct?, third?}
 
@@ -66,6 +66,10 @@ number-lt {P} {Q} i j h np qj (Number.passed {k = k} {m = m} p x) (Number.passed
     go : Dec (j ≡ k) → (j < k → m < m₂) → m < m₂
     go (yes e) below = absurd (q (rw e at qj))
     go (no e) below = below (omega arith)
+
+number-all : (k : ℕ) → Number (λ _. Unit {0}) k k
+number-all zero = Number.none
+number-all (suc k) = Number.counted tt (number-all k)
 
 module _ (n : ℕ) (t : List ℕ) where
   unfoldable pub above? : (b rung c : ℕ) → Dec (Above n t b rung c)
@@ -138,6 +142,22 @@ module _ (n : ℕ) (t : List ℕ) (sound : Sound n t) where
             above = through (d .from .below) (d .to .below) hx (d .under) (z .above);
             under = z .under;
           }
+
+  -- so a ladder has at most n rungs
+
+  rungs-few : {b rung m : ℕ} {l : List ℕ} → Ladder n t b rung l → Number (Above n t b rung) n m → length l ≤ suc m
+  rungs-few (Ladder.end p) x = omega arith
+  rungs-few {b} (Ladder.rung {next = next} r p) x =
+      let later = to-go n t b next .1 in omega (arith, rungs-few p later, rung-falls r later x)
+
+  pub ladder-few : {a b : ℕ} {l : List ℕ} → LadderOf n t a b l → length l ≤ n
+  ladder-few {a} {b} h =
+      let above = to-go n t b (h .start) .1 in
+      omega (
+        arith,
+        rungs-few (h .rungs) above,
+        number-lt (λ c _ _. tt) (h .start) (h .head .below) (λ z. z .differ refl) tt above (number-all n),
+      )
 
   -- a head that is strictly above a has a direct step from a under it
 
@@ -296,3 +316,16 @@ module _ (s : Session) (t : List ℕ) (a b : ℕ) (out : List ℕ) where
   ladder-length =
       writes-length (standing s t (ladderRefusals s t a b out)) (LadderOf (s .classes) t a b) out (λ f.
       ladder-passed (standing-passed (ladderRefusals s t a b out) f .1) .2)
+
+  -- with room for 128 rungs 8 never comes up
+  pub ladder-room : {r : Wrote} {out′ : List ℕ} → 128 ≤ length out → LadderWritten s t a b out r out′ → numberOf r ≢ 8
+  ladder-room {r} room h e =
+      let p = standing-own (ladderRefusals s t a b out) (inr (omega arith)) (h .number) in go (p .0) (p .1)
+    where
+      go : Stands s t → First (ladderRefusals s t a b out) (numberOf r) → ⊥
+      go st (inl (_, k)) = omega arith
+      go st (inr (_, inl (_, k))) = omega arith
+      go st (inr (_, inr (_, inl (_, k)))) = omega arith
+      go st (inr (_, inr (_, inr (_, inl ((l, p, short), k))))) =
+          omega (arith, ladder-few (s .classes) t (st .sound) p, st .few)
+      go st (inr (_, inr (_, inr (_, inr (_, k))))) = omega arith

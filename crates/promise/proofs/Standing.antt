@@ -3,7 +3,7 @@
 use mathlib.Core.Path.{_≡_, refl, subst}
 use mathlib.Core.Logic.{_≢_, _⊎_, inl, inr, ⊎-elim}
 use mathlib.Core.List.{List, []}
-use Prim.Native.Nat.{ℕ, _+_, _*_, _-_, _≤_, _<_}
+use Prim.Native.Nat.{ℕ, suc, _+_, _*_, _-_, _≤_, _<_}
 use native.Mathlib.Decide.{ℕ-discrete, decLt, decLe}
 use native.Mathlib.Nat.{mul-le-mul-right}
 use native.Mathlib.Omega.{arith}
@@ -28,13 +28,20 @@ pub record Stands (s : Session) (t : List ℕ) : Type 0 where
 pub square-above : (n : ℕ) → 1 ≤ n → n ≤ n * n
 square-above n h = omega (arith, mul-le-mul-right n h)
 
-pub standing-passed :
-    (own : List Condition) {s : Session} {t : List ℕ} → First (standing s t own) 0 → Stands s t × First own 0
-standing-passed own {s} {t} (inl p) = absurd (omega (arith, p .1))
-standing-passed own {s} {t} (inr (p, inl q)) = absurd (omega (arith, q .1))
-standing-passed own {s} {t} (inr (p, inr (q, inl r))) = absurd (omega (arith, r .1))
-standing-passed own {s} {t} (inr (p, inr (q, inr (r, inl v)))) = absurd (omega (arith, v .1))
-standing-passed own {s} {t} (inr (p, inr (q, inr (r, inr (v, w))))) = (
+-- where a number is none of 1 to 4, it comes from the refusals of the call itself
+
+not-four : {k j : ℕ} → (k ≡ 0) ⊎ (4 < k) → k ≡ suc j → j < 4 → ⊥
+not-four (inl e) f h = omega arith
+not-four (inr l) f h = omega arith
+
+pub standing-own :
+    (own : List Condition) {s : Session} {t : List ℕ} {k : ℕ} → (k ≡ 0) ⊎ (4 < k) → First (standing s t own) k
+    → Stands s t × First own k
+standing-own own z (inl p) = absurd (not-four z (p .1) (omega arith))
+standing-own own z (inr (p, inl q)) = absurd (not-four z (q .1) (omega arith))
+standing-own own z (inr (p, inr (q, inl r))) = absurd (not-four z (r .1) (omega arith))
+standing-own own z (inr (p, inr (q, inr (r, inl v)))) = absurd (not-four z (v .1) (omega arith))
+standing-own own {s} {t} z (inr (p, inr (q, inr (r, inr (v, w))))) = (
   record {
     some = some;
     few = stable (decLe (s .classes) 128) (λ z. p (inr (omega arith)));
@@ -47,6 +54,10 @@ standing-passed own {s} {t} (inr (p, inr (q, inr (r, inr (v, w))))) = (
   where
     some : 1 ≤ s .classes
     some = stable (decLe 1 (s .classes)) (λ z. p (inl (omega arith)))
+
+pub standing-passed :
+    (own : List Condition) {s : Session} {t : List ℕ} → First (standing s t own) 0 → Stands s t × First own 0
+standing-passed own = standing-own own (inl refl)
 
 pub stood : (s : Session) (t : List ℕ) (k : ℕ) → First (standing s t []) k → k ≡ 0 → Stands s t
 stood s t k h e = standing-passed [] (subst (λ (number : ℕ). First (standing s t []) number) e h) .0

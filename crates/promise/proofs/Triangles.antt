@@ -1,24 +1,21 @@
 -- Direct steps make no triangle, so that there are at most n * n / 4 of them, and the room that the program keeps for them suffices.
 -- Assumes nothing.
 use mathlib.Core.Path.{sym, ap}
-use mathlib.Core.Logic.{_≢_, _⊎_, inl, inr}
+use mathlib.Core.Logic.{_≢_, inl, inr}
 use mathlib.Core.List.{List}
 use Prim.Native.Nat.{ℕ, _*_, _≤_}
-use native.Mathlib.Decide.{decLe}
 use native.Mathlib.Nat.{mul-le-mul}
 use native.Mathlib.Omega.{arith}
 use lib.ListN.{length}
 use Rattle.order.specs.Tables.{Sound}
 use Rattle.order.specs.Pairs.{Pair}
 use Rattle.order.specs.Refusals.{First}
-use Rattle.order.proofs.Decide.{stable}
 use Rattle.order.proofs.Pairs.{length-bytes}
-use Rattle.order.proofs.Sound.{sound?}
 use Rattle.promise.specs.declared.Session.{Session}
 use Rattle.promise.specs.declared.Wrote.{Wrote}
-use Rattle.promise.specs.Refusals.{standing}
-use Rattle.promise.specs.Buffers.{numberOf, TooShort}
-use Rattle.promise.specs.Hierarchy.{Under, Direct, HeadsOf, StepsOf, StepBytes, hierarchyRefusals, HierarchyWritten}
+use Rattle.promise.specs.Buffers.{numberOf}
+use Rattle.promise.specs.Hierarchy.{Under, Direct, StepsOf, hierarchyRefusals, HierarchyWritten}
+use Rattle.promise.proofs.Standing.{Stands, standing-own}
 use Rattle.promise.proofs.Mantel.{NoTriangle, few-edges}
 use Rattle.promise.proofs.Hierarchy.{direct?, heads-equal}
 
@@ -53,26 +50,19 @@ steps-few {n} {t} sound h = few-edges (Direct n t) (direct? n t) (no-triangle so
 pub hierarchy-room :
     {s : Session} {t heads steps : List ℕ} {r : Wrote} {heads′ steps′ : List ℕ} → 128 ≤ length heads
     → 8192 ≤ length steps → HierarchyWritten s t heads steps r heads′ steps′ → numberOf r ≢ 8
-hierarchy-room {s} {t} {heads} {steps} {r} many room h e = go (h .number)
+hierarchy-room {s} {t} {heads} {steps} {r} many room h e =
+    let p = standing-own (hierarchyRefusals s t heads steps) (inr (omega arith)) (h .number) in go (p .0) (p .1)
   where
-    fits : s .classes ≤ 128 → Sound (s .classes) t → ¬ (TooShort (HeadsOf (s .classes) t) heads ⊎ TooShort (StepBytes (s .classes) t) steps)
-    fits few sound (inl (hs, p, l)) = omega (arith, p .size)
-    fits few sound (inr (w, (l, p, e), short)) =
+    go : Stands s t → First (hierarchyRefusals s t heads steps) (numberOf r) → ⊥
+    go st (inl (_, k)) = omega arith
+    go st (inr (_, inl (inl (hs, p, short), k))) = omega (arith, p .size, st .few)
+    go st (inr (_, inl (inr (w, (l, p, same), short), k))) =
         omega (
           arith,
           short,
-          ap (λ (u : List ℕ). length u) e,
+          ap (λ (u : List ℕ). length u) same,
           length-bytes l,
-          steps-few sound p,
-          mul-le-mul {n₁ = s .classes} {m₁ = s .classes} {n₂ = 128} {m₂ = 128} few few,
+          steps-few (st .sound) p,
+          mul-le-mul {n₁ = s .classes} {m₁ = s .classes} {n₂ = 128} {m₂ = 128} (st .few) (st .few),
         )
-
-    go : First (standing s t (hierarchyRefusals s t heads steps)) (numberOf r) → ⊥
-    go (inl (_, k)) = omega arith
-    go (inr (_, inl (_, k))) = omega arith
-    go (inr (_, inr (_, inl (_, k)))) = omega arith
-    go (inr (_, inr (_, inr (_, inl (_, k))))) = omega arith
-    go (inr (_, inr (_, inr (_, inr (_, inl (_, k)))))) = omega arith
-    go (inr (p, inr (_, inr (u, inr (_, inr (_, inl (short, k))))))) =
-        fits (stable (decLe (s .classes) 128) (λ z. p (inr (omega arith)))) (stable (sound? (s .classes) t) u) short
-    go (inr (_, inr (_, inr (_, inr (_, inr (_, inr (_, k))))))) = omega arith
+    go st (inr (_, inr (_, k))) = omega arith

@@ -4,3 +4,4 @@ pub mod Upto
 pub mod Pass
 pub mod Soundness
 pub mod Passes
+pub mod Noting

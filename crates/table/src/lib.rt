@@ -2,6 +2,7 @@
 mod fact;
 mod lines;
 mod marks;
+mod pairs;
 mod refusals;
 mod sound;
 
@@ -10,8 +11,10 @@ pub use fact::take_yes;
 pub use marks::count_open;
 pub use marks::first_open;
 pub use marks::fresh_marks;
+pub use marks::is_marked;
 pub use marks::mark_of;
 pub use marks::under;
+pub use pairs::put_pair;
 pub use refusals::refused;
 pub use refusals::standing;
 

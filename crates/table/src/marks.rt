@@ -36,13 +36,21 @@ pub fn mark_of(n: usize, table: &[u8], a: usize, b: usize) -> Mark
     Mark::No
 }
 
+// Whether (a, b) has this mark.
+pub fn is_marked(n: usize, table: &[u8], a: usize, b: usize, wanted: u8) -> bool
+    requires { ⌜ (Shape n (now table)) × (a < n) × (b < n) ⌝ }
+    ensures { λ r. ⌜ (r ≡ true) ↔ (mark n (now (table .entry)) a b ≡ wanted) ⌝ }
+{
+    let i = index(n, a, b);
+    table[i] == wanted
+}
+
 // Whether a is marked as under b.
 pub fn under(n: usize, table: &[u8], a: usize, b: usize) -> bool
     requires { ⌜ (Shape n (now table)) × (a < n) × (b < n) ⌝ }
     ensures { λ r. ⌜ (r ≡ true) ↔ (mark n (now (table .entry)) a b ≡ 1) ⌝ }
 {
-    let i = index(n, a, b);
-    table[i] == YES
+    is_marked(n, table, a, b, YES)
 }
 
 // The first k bytes become open marks.

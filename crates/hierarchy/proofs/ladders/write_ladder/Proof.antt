@@ -1,6 +1,5 @@
 -- `hierarchy::ladders::write_ladder` meets its contract: the climb from the head of a, written if there is room.
 -- Assumes nothing.
-use mathlib.Core.Path.{_≡_, refl}
 use native.Mathlib.Omega.{arith}
 use Rattle.hierarchy.proofs.Outcomes.{start-reached, ladder-short, ladder-done}
 use borrow.Author.Needs.{needs}

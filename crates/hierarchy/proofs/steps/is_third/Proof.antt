@@ -1,6 +1,5 @@
 -- `hierarchy::steps::is_third` meets its contract: each part of a third head is tested in turn.
 -- Assumes nothing.
-use native.Mathlib.Omega.{arith}
 use borrow.Author.Needs.{needs}
 use Rattle.table.proofs.Answers.{granted, denied, never}
 use Rattle.hierarchy.proofs.Found.{head-at}

@@ -1,13 +1,12 @@
 -- `table::lines::covers` meets its contract: every class passed that is on the inner line is on the outer one.
 -- Assumes nothing.
-use mathlib.Core.Path.{refl, sym, _∙_}
+use mathlib.Core.Path.{refl}
 use mathlib.Core.Logic.{⊎-elim}
-use mathlib.Core.Bool.{false≢true}
 use Prim.Native.Nat.{_-_}
 use native.Mathlib.Omega.{arith}
 use borrow.Author.Needs.{needs}
-use borrow.Author.Tests.{not-true, not-false}
 use Rattle.table.specs.Lines.{On}
+use Rattle.table.proofs.Answers.{granted, refuted, denied, never}
 use Rattle.table.proofs.Upto.{Upto, none, more, all}
 use Rattle.table.proofs.lines.covers.Statement.{statement}
 use Rattle.table.proofs.lines.covers.Tie as tie
@@ -29,10 +28,8 @@ on-requires-2 c κs = search needs
 
 returns : tie.Need-returns Inv-loop μ-loop
 returns c =
-    let inside = c .before .before .before .on .ensures .0 (c .before .before .if1 .taken) in (
-      λ e. absurd (false≢true e),
-      λ h. absurd (false≢true (sym (not-true _ (c .if2 .taken)) ∙ c .before .on2 .ensures .1 (h .at _ (omega arith) inside))),
-    )
+    let inside = c .before .before .before .on .ensures .0 (c .before .before .if1 .taken) in
+    never (λ h. denied (c .if2 .taken) (c .before .on2 .ensures) (h .at _ (omega arith) inside))
 
 add-z : tie.Need-add-z Inv-loop μ-loop
 add-z c = omega arith
@@ -43,8 +40,8 @@ loop-less c = omega arith
 loop-again : tie.Need-loop-again Inv-loop μ-loop
 loop-again c =
     more (omega arith) (c .before .before .before .loop .inv)
-    (⊎-elim (λ w _. w .1 .ensures .0 (not-false _ (w .2 .left)))
-    (λ w q. absurd (false≢true (sym (w .left) ∙ c .before .on .ensures .1 q))) (c .if1 .came))
+    (⊎-elim (λ w _. granted (w .2 .left) (w .1 .ensures))
+    (λ w q. absurd (refuted (w .left) (c .before .on .ensures) q)) (c .if1 .came))
 
 returns-2 : tie.Need-returns-2 Inv-loop μ-loop
 returns-2 c = (λ _. record { at = all (c .loop-test .left) (c .before .loop .inv) }, λ _. refl)

@@ -1,12 +1,12 @@
 -- `table::lines::spread` meets its contract: the lines that it reads stay what they were while it writes.
 -- Assumes nothing.
-use mathlib.Core.Path.{sym, _∙_}
+use mathlib.Core.Path.{sym}
 use mathlib.Core.Logic.{inl, inr, ⊎-elim}
-use mathlib.Core.Bool.{false≢true}
 use Prim.Native.Nat.{_≤_, _-_}
 use native.Mathlib.Omega.{arith}
 use Rattle.order.proofs.Bytes.{rest-refl}
 use Rattle.table.specs.Shape.{Shape}
+use Rattle.table.proofs.Answers.{refuted}
 use Rattle.table.proofs.Index.{shape-kept}
 use Rattle.table.proofs.Pass.{At, Row, start, steady, next-row, finish, row-store, row-pass}
 use Rattle.table.proofs.lines.spread.Statement.{statement}
@@ -75,7 +75,7 @@ loop2-again c =
     (row-store _ _ _ _ _ _ _ _ (m .loop2 .inv) (omega arith) _ (inner m) (w .1 .ensures) (e .0 (w .0 .taken))))
     (λ w.
     rw (w .1)
-    (row-pass _ _ _ _ _ _ _ _ (m .loop2 .inv) (omega arith) (λ q. false≢true (sym (w .0 .left) ∙ e .1 q))))
+    (row-pass _ _ _ _ _ _ _ _ (m .loop2 .inv) (omega arith) (refuted (w .0 .left) e)))
     (c .if2 .came)
 
 add-x : tie.Need-add-x Inv-loop2 μ-loop2 Inv-loop μ-loop
@@ -98,7 +98,7 @@ loop-again c =
           (next-row _ _ _ _ _ _ _ _ (w .1 .inv .carry _ p (same .0 (e .0 (w .0 .taken))) a) (inl (w .2 .left))))
           (λ w.
           rw (w .1)
-          (next-row _ _ _ _ _ _ _ _ a (inr (λ q. false≢true (sym (w .0 .left) ∙ e .1 (same .1 q))))))
+          (next-row _ _ _ _ _ _ _ _ a (inr (λ q. refuted (w .0 .left) e (same .1 q)))))
           (c .if1 .came),
     )
 

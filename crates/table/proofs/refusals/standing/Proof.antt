@@ -1,14 +1,13 @@
 -- `table::refusals::standing` meets its contract. Tests and open pairs are compared with no sum, so that no number of tests overflows.
 -- Assumes nothing.
-use mathlib.Core.Path.{_≡_, refl, sym, _∙_}
+use mathlib.Core.Path.{_≡_, refl}
 use mathlib.Core.Logic.{_⊎_, inl, inr, ⊎-elim}
-use mathlib.Core.Bool.{false≢true}
 use Prim.Native.Nat.{_<_}
 use native.Mathlib.Omega.{arith}
 use borrow.Author.Needs.{needs}
-use borrow.Author.Tests.{not-true, not-false}
 use Rattle.order.specs.Tables.{Sound}
 use Rattle.promise.proofs.Standing.{square-above}
+use Rattle.table.proofs.Answers.{granted, denied}
 use Rattle.table.proofs.Index.{square}
 use Rattle.table.proofs.refusals.standing.Statement.{statement}
 use Rattle.table.proofs.refusals.standing.Tie as tie
@@ -20,7 +19,7 @@ range e = ⊎-elim (e .before .if1 .left) (λ l. omega arith)
 sound :
     (e : tie.Else4)
     → let a = e .before .before .before .before .before .before .args in ¬ ¬ Sound (a .session .classes) (a .table .now)
-sound e k = k (e .before .is-sound .ensures .0 (not-false _ (e .if4 .left)))
+sound e k = k (granted (e .if4 .left) (e .before .is-sound .ensures))
 
 returns : tie.Need-returns
 returns c = inl (inl (c .if1 .taken), refl)
@@ -43,7 +42,7 @@ returns-4 c =
       range (c .before .before .before),
       inr (
         λ l. omega arith,
-        inl (λ h. false≢true (sym (not-true _ (c .if4 .taken)) ∙ c .before .is-sound .ensures .1 h), refl),
+        inl (denied (c .if4 .taken) (c .before .is-sound .ensures), refl),
       ),
     )
 

@@ -1,9 +1,7 @@
 -- `table::sound::carried` meets its contract: three lines covered, one after the other.
 -- Assumes nothing.
-use mathlib.Core.Path.{sym, _∙_}
-use mathlib.Core.Bool.{false≢true}
 use borrow.Author.Needs.{needs}
-use borrow.Author.Tests.{not-true, not-false}
+use Rattle.table.proofs.Answers.{granted, denied, never}
 use Rattle.table.proofs.sound.carried.Statement.{statement}
 use Rattle.table.proofs.sound.carried.Tie as tie
 
@@ -21,10 +19,8 @@ covers-requires c κs =
 returns : tie.Need-returns
 returns c =
     let lines = c .before .before in
-    let covered = rw (lines .before .row .ensures, lines .row2 .ensures) at (c .before .covers .ensures) in (
-      λ e. absurd (false≢true e),
-      λ h. absurd (false≢true (sym (not-true _ (c .if1 .taken)) ∙ covered .1 (h .yes-up))),
-    )
+    let covered = rw (lines .before .row .ensures, lines .row2 .ensures) at (c .before .covers .ensures) in
+    never (λ h. denied (c .if1 .taken) covered (h .yes-up))
 
 row-requires-3 : tie.Need-row-requires-3
 row-requires-3 c κs = search needs
@@ -40,10 +36,8 @@ covers-requires-2 c κs =
 returns-2 : tie.Need-returns-2
 returns-2 c =
     let lines = c .before .before in
-    let covered = rw (lines .before .row3 .ensures, lines .row4 .ensures) at (c .before .covers2 .ensures) in (
-      λ e. absurd (false≢true e),
-      λ h. absurd (false≢true (sym (not-true _ (c .if2 .taken)) ∙ covered .1 (h .no-up))),
-    )
+    let covered = rw (lines .before .row3 .ensures, lines .row4 .ensures) at (c .before .covers2 .ensures) in
+    never (λ h. denied (c .if2 .taken) covered (h .no-up))
 
 column-requires : tie.Need-column-requires
 column-requires c κs = search needs
@@ -67,8 +61,8 @@ returns-3 c =
     let one = rw (lines1 .before .row .ensures, lines1 .row2 .ensures) at (else1 .before .covers .ensures) in (
       λ e.
           record {
-            yes-up = one .0 (not-false _ (else1 .if1 .left));
-            no-up = two .0 (not-false _ (else2 .if2 .left));
+            yes-up = granted (else1 .if1 .left) one;
+            no-up = granted (else2 .if2 .left) two;
             no-down = three .0 e;
           },
       λ h. three .1 (h .no-down),

@@ -1,11 +1,11 @@
 -- `table::sound::diagonal_yes` meets its contract.
 -- Assumes nothing.
 use mathlib.Core.Path.{_≡_, refl, sym, _∙_}
-use mathlib.Core.Bool.{false≢true}
 use Prim.Native.Nat.{_-_}
 use native.Mathlib.Omega.{arith}
 use borrow.Author.Needs.{needs}
 use Rattle.order.specs.Tables.{mark}
+use Rattle.table.proofs.Answers.{never}
 use Rattle.table.proofs.Index.{reads}
 use Rattle.table.proofs.Upto.{Upto, none, more, all}
 use Rattle.table.proofs.sound.diagonal_yes.Statement.{statement}
@@ -27,10 +27,7 @@ shared-slice-read-if1 : tie.Need-shared-slice-read-if1 Inv-loop μ-loop
 shared-slice-read-if1 c = omega arith
 
 returns : tie.Need-returns Inv-loop μ-loop
-returns c = (
-  λ e. absurd (false≢true e),
-  λ h. absurd (c .if1 .taken (sym (reads _ (c .before .before .index .ensures)) ∙ h .at _ (omega arith))),
-)
+returns c = never (λ h. c .if1 .taken (sym (reads _ (c .before .before .index .ensures)) ∙ h .at _ (omega arith)))
 
 add-a : tie.Need-add-a Inv-loop μ-loop
 add-a c = omega arith

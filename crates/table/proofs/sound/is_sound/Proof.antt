@@ -2,14 +2,13 @@
 -- Assumes nothing.
 use mathlib.Core.Path.{_≡_, refl, sym, _∙_}
 use mathlib.Core.Logic.{⊎-elim}
-use mathlib.Core.Bool.{false≢true}
 use mathlib.Core.List.{List}
 use Prim.Native.Nat.{ℕ, _<_, _-_}
 use native.Mathlib.Omega.{arith}
 use borrow.Author.Needs.{needs}
-use borrow.Author.Tests.{not-true, not-false}
 use Rattle.order.specs.Tables.{mark}
 use Rattle.table.specs.Lines.{Carried}
+use Rattle.table.proofs.Answers.{granted, denied, never}
 use Rattle.table.proofs.Index.{reads}
 use Rattle.table.proofs.Soundness.{small-of, carried-of, sound-of}
 use Rattle.table.proofs.Upto.{Upto, none, more, all}
@@ -39,22 +38,13 @@ marks-small-requires : tie.Need-marks-small-requires Inv-loop2 μ-loop2 Inv-loop
 marks-small-requires c κs = search needs
 
 returns : tie.Need-returns Inv-loop2 μ-loop2 Inv-loop μ-loop
-returns c = (
-  λ e. absurd (false≢true e),
-  λ h. absurd (false≢true (sym (not-true _ (c .if1 .taken)) ∙ c .before .marks-small .ensures .1 (small-of h))),
-)
+returns c = never (λ h. denied (c .if1 .taken) (c .before .marks-small .ensures) (small-of h))
 
 diagonal-yes-requires : tie.Need-diagonal-yes-requires Inv-loop2 μ-loop2 Inv-loop μ-loop
 diagonal-yes-requires c κs = search needs
 
 returns-2 : tie.Need-returns-2 Inv-loop2 μ-loop2 Inv-loop μ-loop
-returns-2 c = (
-  λ e. absurd (false≢true e),
-  λ h.
-      absurd
-      (false≢true
-      (sym (not-true _ (c .if2 .taken)) ∙ c .before .diagonal-yes .ensures .1 (record { at = h .diagonal }))),
-)
+returns-2 c = never (λ h. denied (c .if2 .taken) (c .before .diagonal-yes .ensures) (record { at = h .diagonal }))
 
 loop-holds : tie.Need-loop-holds Inv-loop2 μ-loop2 Inv-loop μ-loop
 loop-holds c = none
@@ -73,14 +63,8 @@ carried-requires c κs = search needs
 
 returns-3 : tie.Need-returns-3 Inv-loop2 μ-loop2 Inv-loop μ-loop
 returns-3 c =
-    let yes-pair = reads _ (c .before .before .before .before .index .ensures) ∙ c .before .before .if3 .taken in (
-      λ e. absurd (false≢true e),
-      λ h.
-          absurd
-          (false≢true
-          (sym (not-true _ (c .if4 .taken))
-          ∙ c .before .carried .ensures .1 (carried-of h _ _ (omega arith) (omega arith) yes-pair))),
-    )
+    let yes-pair = reads _ (c .before .before .before .before .index .ensures) ∙ c .before .before .if3 .taken in
+    never (λ h. denied (c .if4 .taken) (c .before .carried .ensures) (carried-of h _ _ (omega arith) (omega arith) yes-pair))
 
 add-b : tie.Need-add-b Inv-loop2 μ-loop2 Inv-loop μ-loop
 add-b c = omega arith
@@ -93,7 +77,7 @@ loop2-again c =
     let l = c .before .before .before .before in
     let byte = reads (l .before .before .before .before .before .before .before .before .args .table .now) (c .before .before .index .ensures) in
     more (omega arith) (l .loop2 .inv)
-    (⊎-elim (λ w _. w .1 .ensures .0 (not-false _ (w .2 .left))) (λ w e. absurd (w .left (sym byte ∙ e))) (c .if3 .came))
+    (⊎-elim (λ w _. granted (w .2 .left) (w .1 .ensures)) (λ w e. absurd (w .left (sym byte ∙ e))) (c .if3 .came))
 
 add-a : tie.Need-add-a Inv-loop2 μ-loop2 Inv-loop μ-loop
 add-a c = omega arith
@@ -109,8 +93,8 @@ returns-4 c =
     let else2 = c .before .before in
     let else1 = else2 .before .before in (
       λ _.
-          sound-of (else1 .before .marks-small .ensures .0 (not-false _ (else1 .if1 .left)))
-          (else2 .before .diagonal-yes .ensures .0 (not-false _ (else2 .if2 .left)))
+          sound-of (granted (else1 .if1 .left) (else1 .before .marks-small .ensures))
+          (granted (else2 .if2 .left) (else2 .before .diagonal-yes .ensures))
           (λ a b ha hb. all (c .loop-test .left) (c .before .loop .inv) a ha b hb),
       λ _. refl,
     )

@@ -1,10 +1,10 @@
 -- `table::sound::marks_small` meets its contract.
 -- Assumes nothing.
 use mathlib.Core.Path.{refl}
-use mathlib.Core.Bool.{false≢true}
 use Prim.Native.Nat.{_≤_, _-_}
 use native.Mathlib.Omega.{arith}
 use lib.ListN.{getD}
+use Rattle.table.proofs.Answers.{never}
 use Rattle.table.proofs.Index.{square}
 use Rattle.table.proofs.Upto.{Upto, none, more, all}
 use Rattle.table.proofs.sound.marks_small.Statement.{statement}
@@ -26,7 +26,7 @@ shared-slice-read-if1 : tie.Need-shared-slice-read-if1 Inv-loop μ-loop
 shared-slice-read-if1 c = omega (arith, c .before .before .before .pre .room)
 
 returns : tie.Need-returns Inv-loop μ-loop
-returns c = (λ e. absurd (false≢true e), λ h. absurd (omega (arith, c .if1 .taken, h .at _ (c .before .before .loop-test .taken))))
+returns c = never (λ h. omega (arith, c .if1 .taken, h .at _ (c .before .before .loop-test .taken)))
 
 add-i : tie.Need-add-i Inv-loop μ-loop
 add-i c = omega arith

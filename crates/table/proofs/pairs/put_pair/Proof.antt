@@ -1,10 +1,10 @@
--- `hierarchy::steps::put_pair` meets its contract.
+-- `table::pairs::put_pair` meets its contract.
 -- Assumes nothing.
 use native.Mathlib.Omega.{arith}
 use borrow.Author.Needs.{needs}
 use lib.ListN.{length-set}
-use Rattle.hierarchy.proofs.steps.put_pair.Statement.{statement}
-use Rattle.hierarchy.proofs.steps.put_pair.Tie as tie
+use Rattle.table.proofs.pairs.put_pair.Statement.{statement}
+use Rattle.table.proofs.pairs.put_pair.Tie as tie
 
 add-if1 : tie.Need-add-if1
 add-if1 c = search needs
