@@ -11,7 +11,7 @@ use Rattle.promise.specs.Hierarchy.{HeadOf}
 use Rattle.promise.specs.Ladder.{NextRung, Ladder}
 use Rattle.promise.proofs.Hierarchy.{head-unique}
 use Rattle.promise.proofs.Ladder.{to-go, rung-falls, head-of-equal}
-use Rattle.hierarchy.specs.Found.{Found, Short, Reached, Climbed}
+use Rattle.hierarchy.specs.Found.{Found, BelowGoal, Reached, Climbed}
 
 -- the rungs beyond this one, and out₁ as the climb from there left it
 pub record Beyond (n : ℕ) (t : List ℕ) (goal rung before : ℕ) (out : List ℕ) (count : ℕ) (out₁ : List ℕ) : Type 0 where
@@ -86,15 +86,12 @@ module _ {n : ℕ} {t : List ℕ} {goal rung before : ℕ} {out : List ℕ} wher
           unwritten = h .unwritten;
         }
 
-    pub beyond-room : count ≤ length out₁ → before < length out₁
-    beyond-room room = omega (arith, h .counted)
-
 module _ {n : ℕ} {t heads : List ℕ} {goal rung before : ℕ} (f : Found n t heads) (r : Reached n t goal rung before) where
   -- at the goal's head the ladder ends; below it there is a next rung
   pub at-top : rung ≡ getD heads goal 0 → HeadOf n t goal rung
   at-top e = rw (← e) at (f .at goal (r .goal-below))
 
-  pub not-top : ¬ (rung ≡ getD heads goal 0) → Short n t goal rung
+  pub not-top : ¬ (rung ≡ getD heads goal 0) → BelowGoal n t goal rung
   not-top differ =
       record {
         goal-below = r .goal-below;

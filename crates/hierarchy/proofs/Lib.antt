@@ -1,4 +1,4 @@
-pub mod Seek
+pub mod Lowest
 pub mod Found
 pub mod Climbing
 pub mod Outcomes

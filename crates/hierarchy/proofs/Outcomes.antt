@@ -7,7 +7,7 @@ use Prim.Native.Nat.{ℕ, _*_, _≤_, _<_}
 use native.Mathlib.Omega.{arith}
 use lib.ListN.{length, getD, take, drop}
 use lib.Seq.{length-take-le, getD-take}
-use Rattle.order.specs.Tables.{opens}
+use Rattle.order.specs.Tables.{Sound, opens}
 use Rattle.order.specs.Pairs.{Pair, bytesOf}
 use Rattle.order.specs.Refusals.{First}
 use Rattle.order.proofs.Pairs.{lists-unique, length-bytes}
@@ -20,9 +20,9 @@ use Rattle.promise.specs.Hierarchy.{Under, HeadOf, HeadsOf, StepBytes, hierarch
 use Rattle.promise.specs.Ladder.{LadderOf, ladderRefusals, LadderWritten}
 use Rattle.promise.proofs.Standing.{Stands, standing-refused, first-stands}
 use Rattle.promise.proofs.Buffers.{writes-refused}
-use Rattle.promise.proofs.Hierarchy.{head-head, step-bytes-unique}
+use Rattle.promise.proofs.Hierarchy.{head-head, heads-there, step-bytes-unique}
 use Rattle.promise.proofs.Ladder.{number-most, to-go, through, ladder-unique}
-use Rattle.hierarchy.specs.Found.{Found, StepsNoted, HierarchyLeft, Climbs, LadderLeft, Reached, Climbed}
+use Rattle.hierarchy.specs.Found.{Found, StepsNoted, HierarchyLeft, HasLadder, LadderLeft, Reached, Climbed}
 
 -- nothing lent, nothing written
 pub lent-none : (l out : List ℕ) → length l ≡ 0 → l ++ out ≡ out
@@ -42,9 +42,9 @@ module _ {n : ℕ} {t heads steps : List ℕ} where
       TooShort (HeadsOf n t) heads ⊎ TooShort (StepBytes n t) steps → HierarchyLeft n t heads steps (Refused 8 0) heads steps
   too-short short = record { number = inl (short, refl); place = refl; buffers = (λ e. omega arith, refl, refl) }
 
-  pub heads-short :
-      {found : List ℕ} → Found n t found → length heads < n → HierarchyLeft n t heads steps (Refused 8 0) heads steps
-  heads-short {found} f short = let hs = heads-of f in too-short (inl (take n found, hs, omega (arith, hs .size)))
+  pub heads-short : Sound n t → length heads < n → HierarchyLeft n t heads steps (Refused 8 0) heads steps
+  heads-short sound short =
+      let hs = heads-there n t sound in too-short (inl (hs .0, hs .1, omega (arith, hs .1 .size)))
 
   pub steps-short :
       {out out′ : List ℕ} {count : ℕ} → StepsNoted n t out count out′ → length steps < 2 * count
@@ -78,7 +78,7 @@ module _ {n : ℕ} {t heads steps : List ℕ} where
           omega (arith, ap (λ (u : List ℕ). length u) (step-bytes-unique w (bytesOf l₂) h (l₂, p₂, refl)), length-bytes l₂, all)
 
 -- a climb from the head of a starts with no rung before it
-pub start-reached : {n : ℕ} {t heads : List ℕ} {a b : ℕ} → Found n t heads → Climbs n t a b → Reached n t b (getD heads a 0) 0
+pub start-reached : {n : ℕ} {t heads : List ℕ} {a b : ℕ} → Found n t heads → HasLadder n t a b → Reached n t b (getD heads a 0) 0
 start-reached {n} {t} {heads} {a} {b} f c =
     let sound = f .ordered .sound in
     let h = f .at a (c .lower-below) in
@@ -93,7 +93,7 @@ start-reached {n} {t} {heads} {a} {b} f c =
     }
 
 module _
-    {n : ℕ} {t : List ℕ} {a b start : ℕ} {out : List ℕ} {count : ℕ} {out′ : List ℕ} (c : Climbs n t a b)
+    {n : ℕ} {t : List ℕ} {a b start : ℕ} {out : List ℕ} {count : ℕ} {out′ : List ℕ} (c : HasLadder n t a b)
     (h : HeadOf n t a start) (k : Climbed n t b start 0 out count out′) (size : length out′ ≡ length out)
   where
     from-start : LadderOf n t a b (k .rungs)

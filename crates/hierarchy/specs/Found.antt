@@ -16,12 +16,12 @@ use Rattle.promise.specs.Ladder.{Ladder, LadderOf, Above, Number}
 use Rattle.table.specs.Shape.{Shape}
 use Rattle.table.specs.Noted.{Noted}
 
--- a sound table
+-- at most 128 classes, room for their marks, and the marks sound
 pub record Ordered (n : ℕ) (t : List ℕ) : Type 0 where
   pub shape : Shape n t
   pub sound : Sound n t
 
--- a sound table, and the head of each of its classes
+-- such a table, and the head of each of its classes
 pub record Found (n : ℕ) (t heads : List ℕ) : Type 0 where
   pub ordered : Ordered n t
   pub room : n ≤ length heads
@@ -32,7 +32,7 @@ abbrev pub StepsNoted : ℕ → List ℕ → List ℕ → ℕ → List ℕ → T
 StepsNoted n t out count out′ = (l : List Pair) × StepsOf n t l × Noted out l count out′
 
 -- rung is a head under the goal, but not the goal's own head
-pub record Short (n : ℕ) (t : List ℕ) (goal rung : ℕ) : Type 0 where
+pub record BelowGoal (n : ℕ) (t : List ℕ) (goal rung : ℕ) : Type 0 where
   pub goal-below : goal < n
   pub head : Head n t rung
   pub under : Under n t rung goal
@@ -44,8 +44,8 @@ pub record HierarchyLeft (n : ℕ) (t heads steps : List ℕ) (r : Wrote) (heads
   pub place : placeOf r ≡ 0
   pub buffers : HierarchyIn n t heads steps heads′ steps′ r
 
--- a ladder from a to b may be asked for
-pub record Climbs (n : ℕ) (t : List ℕ) (a b : ℕ) : Type 0 where
+-- such a table and two of its classes, a under b
+pub record HasLadder (n : ℕ) (t : List ℕ) (a b : ℕ) : Type 0 where
   pub ordered : Ordered n t
   pub lower-below : a < n
   pub upper-below : b < n
@@ -55,7 +55,7 @@ pub record Climbs (n : ℕ) (t : List ℕ) (a b : ℕ) : Type 0 where
 abbrev pub LadderLeft : ℕ → List ℕ → ℕ → ℕ → List ℕ → Wrote → List ℕ → Type 0
 LadderLeft n t a b out r out′ = Writes (noRoom (TooShort (LadderOf n t a b) out) ∷ []) (LadderOf n t a b) out r out′
 
--- a climb to the goal has come to rung with so many rungs before it; the heads strictly above rung and under the goal bound what is left
+-- a climb to the goal has come to rung, with this many rungs before it; the heads strictly above rung and under the goal bound what is left
 pub record Reached (n : ℕ) (t : List ℕ) (goal rung before : ℕ) : Type 0 where
   pub goal-below : goal < n
   pub head : Head n t rung
@@ -64,8 +64,8 @@ pub record Reached (n : ℕ) (t : List ℕ) (goal rung before : ℕ) : Type 0 wh
   pub number : Number (Above n t goal rung) n left
   pub few : before + left ≤ n
 
--- The climb from rung on: the ladder from there makes count rungs of those before it, and it is written behind them if out has room for
--- all. If not, no byte is written.
+-- With the rungs before it, the ladder from rung on makes count rungs. It is written behind them if out has room for all, and otherwise
+-- no byte is written.
 pub record Climbed (n : ℕ) (t : List ℕ) (goal rung before : ℕ) (out : List ℕ) (count : ℕ) (out′ : List ℕ) : Type 0 where
   pub rungs : List ℕ
   pub ladder : Ladder n t goal rung rungs

@@ -13,18 +13,19 @@ use table::standing;
 ghost use Rattle.promise.specs.Hierarchy.{HierarchyWritten};
 ghost use Rattle.hierarchy.specs.Found.{Ordered, HierarchyLeft};
 
-// The heads and the direct steps. The steps are counted before any byte is written.
+// The heads and the direct steps, where only 8 may still be due. The steps are counted before any byte is written, over an empty part of
+// their buffer.
 fn write_hierarchy(n: usize, table: &[u8], heads: &mut [u8], steps: &mut [u8]) -> Wrote
     requires { ⌜ Ordered n (now table) ⌝ }
     ensures { λ r. ⌜ HierarchyLeft n (now (table .entry)) (now (heads .entry)) (now (steps .entry)) r
         (now (heads .exit)) (now (steps .exit)) ⌝ }
 {
-    let mut found: [u8; MOST_CLASSES] = [0; MOST_CLASSES];
-    find_heads(n, table, &mut found[..]);
-    let count = list_steps(n, table, &found[..], &mut steps[..0]);
     if heads.len() < n {
         return refused(NO_ROOM);
     }
+    let mut found: [u8; MOST_CLASSES] = [0; MOST_CLASSES];
+    find_heads(n, table, &mut found[..]);
+    let count = list_steps(n, table, &found[..], &mut steps[..0]);
     if steps.len() < 2 * count {
         return refused(NO_ROOM);
     }
@@ -33,7 +34,8 @@ fn write_hierarchy(n: usize, table: &[u8], heads: &mut [u8], steps: &mut [u8]) -
     Wrote::Count(count)
 }
 
-// The head of each class to one buffer, and the direct steps to the other. Gives the count of steps.
+// Writes the head of each class, a byte each, and the direct steps, two bytes each, and gives the count of steps. Refuses with 1 to 4,
+// with 7 if a pair is open, and with 8 if either buffer is too short; then no byte is written.
 pub fn hierarchy(session: Session, table: &[u8], heads: &mut [u8], steps: &mut [u8]) -> Wrote
     ensures { λ r. ⌜ HierarchyWritten session (now (table .entry)) (now (heads .entry)) (now (steps .entry)) r
         (now (heads .exit)) (now (steps .exit)) ⌝ }

@@ -22,19 +22,21 @@ fn equal(n: usize, table: &[u8], a: usize, b: usize) -> bool
     under(n, table, b, a)
 }
 
-// The lowest class equal to a. The search ends at a itself if not before.
+// The lowest class equal to a.
 fn head_of(n: usize, table: &[u8], a: usize) -> usize
     requires { ⌜ (Ordered n (now table)) × (a < n) ⌝ }
     ensures { λ r. ⌜ HeadOf n (now (table .entry)) a r ⌝ }
 {
-    let mut head: usize = 0;
-    loop {
-        let same = equal(n, table, a, head);
+    let mut head = a;
+    for c in 0..n {
+        let same = equal(n, table, a, c);
         if same {
-            return head;
+            if c < head {
+                head = c;
+            }
         }
-        head += 1;
     }
+    head
 }
 
 // The head of each class is worked out.

@@ -2,9 +2,9 @@
 use crate::heads::find_heads;
 use crate::rungs::climb;
 use promise::MOST_CLASSES;
+use promise::NO_LADDER;
 use promise::NO_ROOM;
 use promise::NO_SUCH_CLASS;
-use promise::NOT_UNDER;
 use promise::STILL_OPEN;
 use promise::Session;
 use promise::Wrote;
@@ -13,11 +13,11 @@ use table::refused;
 use table::standing;
 use table::under;
 ghost use Rattle.promise.specs.Ladder.{LadderWritten};
-ghost use Rattle.hierarchy.specs.Found.{Climbs, LadderLeft};
+ghost use Rattle.hierarchy.specs.Found.{HasLadder, LadderLeft};
 
-// The ladder from a to b.
+// The ladder from a to b, where only 8 may still be due.
 fn write_ladder(n: usize, table: &[u8], a: usize, b: usize, rungs: &mut [u8]) -> Wrote
-    requires { ⌜ Climbs n (now table) a b ⌝ }
+    requires { ⌜ HasLadder n (now table) a b ⌝ }
     ensures { λ r. ⌜ LadderLeft n (now (table .entry)) a b (now (rungs .entry)) r (now (rungs .exit)) ⌝ }
 {
     let mut heads: [u8; MOST_CLASSES] = [0; MOST_CLASSES];
@@ -30,7 +30,8 @@ fn write_ladder(n: usize, table: &[u8], a: usize, b: usize, rungs: &mut [u8]) ->
     Wrote::Count(count)
 }
 
-// The ladder from a to b. Gives the count of rungs.
+// Writes the ladder from a to b, a byte a rung, and gives the count of rungs. Refuses with 1 to 4, with 5 if a or b is no class, with 7 if a
+// pair is open, with 9 if a is not under b, and with 8 if the buffer is too short; then no byte is written.
 pub fn ladder(session: Session, table: &[u8], a: usize, b: usize, rungs: &mut [u8]) -> Wrote
     ensures { λ r. ⌜ LadderWritten session (now (table .entry)) a b (now (rungs .entry)) r (now (rungs .exit)) ⌝ }
 {
@@ -51,7 +52,7 @@ pub fn ladder(session: Session, table: &[u8], a: usize, b: usize, rungs: &mut [u
     }
     let up = under(n, table, a, b);
     if !up {
-        return refused(NOT_UNDER);
+        return refused(NO_LADDER);
     }
     write_ladder(n, table, a, b, rungs)
 }

@@ -1,4 +1,5 @@
-// The public calls over a table with no open pair: groups, direct steps and ladders.
+// The calls hierarchy and ladder. Neither has a requires: any class count, tally, table, class numbers and buffers get an answer or a
+// refusal.
 mod groups;
 mod heads;
 mod ladders;

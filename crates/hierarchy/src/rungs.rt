@@ -7,7 +7,7 @@ ghost use mathlib.Core.Bool.{true};
 ghost use Prim.Native.Nat.{_<_};
 ghost use Rattle.promise.specs.Hierarchy.{Under, Direct};
 ghost use Rattle.promise.specs.Ladder.{NextRung};
-ghost use Rattle.hierarchy.specs.Found.{Found, Short, Reached, Climbed};
+ghost use Rattle.hierarchy.specs.Found.{Found, BelowGoal, Reached, Climbed};
 
 // Whether c is directly above the rung and under the goal.
 fn leads_on(n: usize, table: &[u8], heads: &[u8], goal: usize, rung: usize, c: usize) -> bool
@@ -21,23 +21,25 @@ fn leads_on(n: usize, table: &[u8], heads: &[u8], goal: usize, rung: usize, c: u
     is_direct(n, table, heads, rung, c)
 }
 
-// The lowest-numbered head directly above the rung and under the goal. There is one wherever the rung is not the goal's head.
+// The lowest-numbered head directly above the rung and under the goal. There is one, since the rung is not the goal's head.
 fn next_rung(n: usize, table: &[u8], heads: &[u8], goal: usize, rung: usize) -> usize
-    requires { ⌜ (Found n (now table) (now heads)) × (Short n (now table) goal rung) ⌝ }
+    requires { ⌜ (Found n (now table) (now heads)) × (BelowGoal n (now table) goal rung) ⌝ }
     ensures { λ r. ⌜ NextRung n (now (table .entry)) goal rung r ⌝ }
 {
-    let mut next: usize = 0;
-    loop {
-        let on = leads_on(n, table, heads, goal, rung, next);
+    let mut next = n;
+    for c in 0..n {
+        let on = leads_on(n, table, heads, goal, rung, c);
         if on {
-            return next;
+            if c < next {
+                next = c;
+            }
         }
-        next += 1;
     }
+    next
 }
 
-// The ladder from this rung on, with so many rungs before it. It is written from its top down, once the count of all rungs is known and
-// only if there is room for all of them. Gives that count.
+// The ladder from this rung on, which stands behind the rungs before it. It is written from its top down, once the count of all rungs is
+// known and only if there is room for all of them. Gives that count.
 pub fn climb(
     n: usize,
     table: &[u8],

@@ -5,7 +5,7 @@ use table::under;
 ghost use mathlib.Core.Path.{_≡_};
 ghost use mathlib.Core.Logic.{_↔_};
 ghost use mathlib.Core.Bool.{true};
-ghost use Prim.Native.Nat.{_+_, _<_};
+ghost use Prim.Native.Nat.{_<_};
 ghost use Rattle.promise.specs.Hierarchy.{Third, Direct};
 ghost use Rattle.hierarchy.specs.Found.{Found, StepsNoted};
 
@@ -60,8 +60,8 @@ pub fn is_direct(n: usize, table: &[u8], heads: &[u8], a: usize, b: usize) -> bo
     true
 }
 
-// How many direct steps there are. They are written, two bytes each, ordered by a and then b, if there is room for all of them; an
-// empty buffer serves to count them.
+// Counts the direct steps. Each is written, two bytes, ordered by a and then b, if it fits: a buffer with room for all gets all, and an empty
+// one serves to count.
 pub fn list_steps(n: usize, table: &[u8], heads: &[u8], steps: &mut [u8]) -> usize
     requires { ⌜ Found n (now table) (now heads) ⌝ }
     ensures { λ r. ⌜ StepsNoted n (now (table .entry)) (now (steps .entry)) r (now (steps .exit)) ⌝ }

@@ -47,6 +47,10 @@ number-le i (Number.counted p x) (Number.passed q y) = absurd (q (i _ (omega ari
 number-le i (Number.passed p x) (Number.counted q y) = omega (arith, number-le (λ c h. i c (omega arith)) x y)
 number-le i (Number.passed p x) (Number.passed q y) = omega (arith, number-le (λ c h. i c (omega arith)) x y)
 
+-- one number counts what has a property
+pub number-unique : {P : ℕ → Type 0} {k m m₂ : ℕ} → Number P k m → Number P k m₂ → m ≡ m₂
+number-unique x y = le-antisymm (number-le (λ c h p. p) x y) (number-le (λ c h p. p) y x)
+
 number-lt :
     {P Q : ℕ → Type 0} {k m m₂ : ℕ} → ((c : ℕ) → c < k → P c → Q c) → (j : ℕ) → j < k → ¬ P j → Q j → Number P k m
     → Number Q k m₂ → m < m₂

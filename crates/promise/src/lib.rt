@@ -47,4 +47,4 @@ pub const STILL_OPEN: u8 = 7;
 
 pub const NO_ROOM: u8 = 8;
 
-pub const NOT_UNDER: u8 = 9;
+pub const NO_LADDER: u8 = 9;

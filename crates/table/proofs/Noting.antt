@@ -11,7 +11,7 @@ use Rattle.order.proofs.Pairs.{pairsOf, pairsBefore, before-none, before-hit, b
 use Rattle.order.proofs.Counting.{before-length}
 use Rattle.promise.specs.Buffers.{over}
 use Rattle.promise.proofs.Buffers.{over-more}
-use Rattle.table.specs.Noted.{Noted}
+use Rattle.table.specs.Noted.{PairPut, Noted}
 
 noted-none : (out : List ℕ) → Noted out [] 0 out
 noted-none out = record { counted = refl; size = refl; written = λ _. refl }
@@ -33,8 +33,7 @@ over-pair l out a b room =
 
 noted-more :
     {out out₁ out₂ : List ℕ} {l : List Pair} {count : ℕ} (a b : ℕ) → Noted out l count out₁ → length out₂ ≡ length out₁
-    → (2 * count + 2 ≤ length out₁ → out₂ ≡ set (set out₁ (2 * count) a) (2 * count + 1) b)
-    → Noted out (l ++ (a, b) ∷ []) (count + 1) out₂
+    → PairPut (2 * count) a b out₁ out₂ → Noted out (l ++ (a, b) ∷ []) (count + 1) out₂
 noted-more {out} {out₁} {out₂} {l} {count} a b h e put =
     record {
       counted = omega (arith, h .counted, length-append l ((a, b) ∷ []));
@@ -43,7 +42,7 @@ noted-more {out} {out₁} {out₂} {l} {count} a b h e put =
           let all : length (bytesOf (l ++ (a, b) ∷ [])) ≡ length (bytesOf l) + 2 =
           omega (arith, length-bytes (l ++ (a, b) ∷ []), length-append l ((a, b) ∷ []), length-bytes l)
           in
-          put (omega (arith, h .counted, h .size, length-bytes l))
+          put .put (omega (arith, h .counted, h .size, length-bytes l))
           ∙ ap (λ (k : ℕ). set (set out₁ (2 * k) a) (2 * k + 1) b) (h .counted)
           ∙ ap (λ (u : List ℕ). set (set u (2 * length l) a) (2 * length l + 1) b) (h .written (omega arith))
           ∙ over-pair l out a b room;
@@ -79,8 +78,7 @@ module _ {P : ℕ → ℕ → Type 0} {dec : (a b : ℕ) → Dec (P a b)} {n : �
         )
 
     pub hit :
-        {out₂ : List ℕ} → P a b → length out₂ ≡ length out₁
-        → (2 * count + 2 ≤ length out₁ → out₂ ≡ set (set out₁ (2 * count) a) (2 * count + 1) b)
+        {out₂ : List ℕ} → P a b → length out₂ ≡ length out₁ → PairPut (2 * count) a b out₁ out₂
         → SoFar P dec n out (count + 1) out₂ a (b + 1)
     hit p e put = record { noted = rw (before-hit P dec n a b p) (noted-more a b (h .noted) e put) }
 

@@ -2,10 +2,15 @@
 -- Assumes nothing.
 use mathlib.Core.Path.{_≡_}
 use mathlib.Core.List.{List}
-use Prim.Native.Nat.{ℕ, _≤_}
-use lib.ListN.{length}
+use Prim.Native.Nat.{ℕ, _+_, _≤_, _<_}
+use lib.ListN.{length, set}
 use Rattle.order.specs.Pairs.{Pair, bytesOf}
 use Rattle.promise.specs.Buffers.{over}
+
+-- the pair stands at index at, if there is room for it; if not, no byte is changed
+pub record PairPut (at a b : ℕ) (out out′ : List ℕ) : Type 0 where
+  pub put : at + 2 ≤ length out → out′ ≡ set (set out at a) (at + 1) b
+  pub kept : length out < at + 2 → out′ ≡ out
 
 -- the pairs of l were counted, and they were written to the front of out if it has room for all of them
 pub record Noted (out : List ℕ) (l : List Pair) (count : ℕ) (out′ : List ℕ) : Type 0 where

@@ -1,4 +1,4 @@
--- `hierarchy::rungs::+climb` meets its contract.
+-- `hierarchy::rungs::climb` meets its contract.
 -- Assumes nothing.
 use mathlib.Core.Path.{_∙_}
 use mathlib.Core.Logic.{⊎-elim}
@@ -6,7 +6,7 @@ use Prim.Native.Nat.{ℕ, _<_}
 use native.Mathlib.Omega.{arith}
 use lib.ListN.{length-set}
 use Rattle.promise.proofs.Ladder.{to-go, rung-falls}
-use Rattle.hierarchy.proofs.Climbing.{Beyond, beyond-none, beyond-next, climbed, not-climbed, beyond-room, at-top, not-top, next-reached}
+use Rattle.hierarchy.proofs.Climbing.{Beyond, beyond-none, beyond-next, climbed, not-climbed, at-top, not-top, next-reached}
 use borrow.Fn.Kinds.{In}
 use borrow.Fn.PlainCycle.{Measures, is, falls, and}
 use Rattle.hierarchy.proofs.rungs.climb.Reads as climb
@@ -30,7 +30,7 @@ abbrev claims : ℕ → climb-lts.Claims
 claims t = (next-rung-reads.Asked, next-rung-reads.Learnt, climb-below t, climb.Post)
 
 climb-shared-slice-read-top : (t : ℕ) → climb-lts.Need-shared-slice-read-top (claims t) (climb-at t) climb.Post
-climb-shared-slice-read-top t c = let p = c .before .before .before .before .pre .1 in omega (arith, p .1 .goal-below, p .0 .room)
+climb-shared-slice-read-top t c = let p = c .before .before .before .before .pre .1 in omega (arith, p .1 .goal-below, p .1 .head .below, p .0 .room)
 
 climb-cast-top : (t : ℕ) → climb-lts.Need-cast-top (claims t) (climb-at t) climb.Post
 climb-cast-top t c = omega (arith, c .shared-slice-known3 .given (c .before .before .before .before .args .goal))
@@ -70,7 +70,7 @@ climb-cast-rungs : (t : ℕ) → climb-lts.Need-cast-rungs (claims t) (climb-at 
 climb-cast-rungs t c = let p = c .before .before .before .before .before .before .pre .1 in omega (arith, p .1 .head .below, p .0 .ordered .shape .few)
 
 climb-slice-write-rungs : (t : ℕ) → climb-lts.Need-slice-write-rungs (claims t) (climb-at t) climb.Post
-climb-slice-write-rungs t c = beyond-room (beyond t (c .before)) (c .if2 .taken)
+climb-slice-write-rungs t c = omega (arith, beyond t (c .before) .counted)
 
 climb-same-length : (t : ℕ) → climb-lts.Need-same-length (claims t) (climb-at t) climb.Post
 climb-same-length t c = length-set (c .before .if1 .rungs) _ _ ∙ beyond t (c .before) .size

@@ -1,5 +1,6 @@
 -- `table::pairs::put_pair` meets its contract.
 -- Assumes nothing.
+use mathlib.Core.Path.{refl}
 use native.Mathlib.Omega.{arith}
 use borrow.Author.Needs.{needs}
 use lib.ListN.{length-set}
@@ -28,10 +29,10 @@ same-length : tie.Need-same-length
 same-length c = search needs
 
 returns : tie.Need-returns
-returns c = search needs
+returns c = record { put = λ _. refl; kept = λ short. absurd (omega arith) }
 
 returns-2 : tie.Need-returns-2
-returns-2 c = λ room. absurd (omega arith)
+returns-2 c = record { put = λ room. absurd (omega arith); kept = λ _. refl }
 
 pub put-pair-spec : {M : Type 1} → statement M
 put-pair-spec =
