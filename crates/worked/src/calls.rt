@@ -1,4 +1,4 @@
-// One line a call: how it was called and what it gave.
+// One line a call: its arguments and what it gave.
 use crate::print;
 use crate::print::text;
 use promise::Reply;

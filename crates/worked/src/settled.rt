@@ -1,5 +1,5 @@
-// Groups, direct steps and ladders on tables told until nothing is open, and buffers of all kinds. Each buffer starts as nines, so that
-// bytes left alone show.
+// Groups, direct steps and ladders on settled tables, told or written out, with buffers of all kinds. Each buffer starts as nines, so
+// that bytes left alone show.
 use crate::calls::fresh;
 use crate::calls::hierarchy;
 use crate::calls::ladder;
@@ -58,16 +58,23 @@ pub fn two_ways() {
     hierarchy(session, &table, &mut heads, &mut steps);
     let mut rungs = [9u8; 3];
     ladder(session, &table, 0, 3, &mut rungs);
-    let mut none = [9u8; 3];
-    ladder(session, &table, 1, 2, &mut none);
-    let mut kept = [9u8; 4];
-    let mut short = [9u8; 7];
-    hierarchy(session, &table, &mut kept, &mut short);
-    let mut few = [9u8; 3];
-    let mut whole = [9u8; 8];
-    hierarchy(session, &table, &mut few, &mut whole);
-    let mut low = [9u8; 2];
-    ladder(session, &table, 0, 3, &mut low);
+    let mut past_one = [9u8; 2];
+    ladder(session, &table, 0, 2, &mut past_one);
+    no_room(session, &table);
+}
+
+// P11's table again, where nothing is written.
+fn no_room(session: Session, table: &[u8]) {
+    let mut no_rungs = [9u8; 0];
+    ladder(session, table, 1, 2, &mut no_rungs);
+    let mut heads = [9u8; 4];
+    let mut short_steps = [9u8; 7];
+    hierarchy(session, table, &mut heads, &mut short_steps);
+    let mut short_heads = [9u8; 3];
+    let mut steps = [9u8; 8];
+    hierarchy(session, table, &mut short_heads, &mut steps);
+    let mut short_rungs = [9u8; 2];
+    ladder(session, table, 0, 3, &mut short_rungs);
 }
 
 pub fn one_class() {
@@ -96,11 +103,16 @@ pub fn refused() {
     };
     let mut heads = [9u8; 1];
     let mut steps = [9u8; 1];
+    let mut rungs = [9u8; 1];
     text(b"P7: a pair is still open\n");
     hierarchy(session, &open, &mut heads, &mut steps);
-    ladder(session, &open, 2, 0, &mut steps);
-    ladder(session, &open, 3, 0, &mut steps);
-    text(b"No class, 8 bytes, tally 7\n");
+    ladder(session, &open, 2, 0, &mut rungs);
+    ladder(session, &open, 3, 0, &mut rungs);
+    text(b"Not sound: yes (0, 1) and (1, 2) with (0, 2) open\n");
+    let gap = [1u8, 1, 0, 0, 1, 1, 0, 0, 1];
+    hierarchy(session, &gap, &mut heads, &mut steps);
+    ladder(session, &gap, 0, 2, &mut rungs);
+    text(b"P8's table with no class, 8 bytes of it, and tally 7\n");
     let empty = Session {
         classes: 0,
         tests: 0,
@@ -111,5 +123,5 @@ pub fn refused() {
         classes: 3,
         tests: 7,
     };
-    ladder(tested, &settled, 0, 2, &mut steps);
+    ladder(tested, &settled, 0, 2, &mut rungs);
 }

@@ -30,7 +30,7 @@ abbrev claims : ℕ → climb-lts.Claims
 claims t = (next-rung-reads.Asked, next-rung-reads.Learnt, climb-below t, climb.Post)
 
 climb-shared-slice-read-top : (t : ℕ) → climb-lts.Need-shared-slice-read-top (claims t) (climb-at t) climb.Post
-climb-shared-slice-read-top t c = let p = c .before .before .before .before .pre .1 in omega (arith, p .1 .goal-below, p .1 .head .below, p .0 .room)
+climb-shared-slice-read-top t c = let p = c .before .before .before .before .pre .1 in omega (arith, p .1 .goal-below, p .0 .room)
 
 climb-cast-top : (t : ℕ) → climb-lts.Need-cast-top (claims t) (climb-at t) climb.Post
 climb-cast-top t c = omega (arith, c .shared-slice-known3 .given (c .before .before .before .before .args .goal))
