@@ -2,7 +2,7 @@
 -- Assumes nothing.
 use mathlib.Core.Path.{_≡_, refl, _∙_, ap}
 use mathlib.Core.Logic.{_≢_, _⊎_, inl, inr, ⊎-elim}
-use mathlib.Core.List.{List, [], _∷_, _++_}
+use mathlib.Core.List.{List, [], _++_}
 use Prim.Native.Nat.{ℕ, _*_, _≤_, _<_}
 use native.Mathlib.Omega.{arith}
 use lib.ListN.{length, getD, take, drop}
@@ -23,11 +23,6 @@ use Rattle.promise.proofs.Buffers.{writes-refused}
 use Rattle.promise.proofs.Hierarchy.{head-head, heads-there, step-bytes-unique}
 use Rattle.promise.proofs.Ladder.{number-most, to-go, through, ladder-unique}
 use Rattle.hierarchy.specs.Found.{Found, StepsNoted, HierarchyLeft, HasLadder, LadderLeft, Reached, Climbed}
-
--- nothing lent, nothing written
-pub lent-none : (l out : List ℕ) → length l ≡ 0 → l ++ out ≡ out
-lent-none [] out e = refl
-lent-none (x ∷ l) out e = absurd (omega arith)
 
 -- the first n bytes found are the heads
 pub heads-of : {n : ℕ} {t found : List ℕ} → Found n t found → HeadsOf n t (take n found)

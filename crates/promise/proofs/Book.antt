@@ -12,11 +12,7 @@ use lib.Dec.{T, ltb, eqb→eq, nltb→le}
 use lib.ListN.{length, getD, take, drop, length-take, length-drop}
 use lib.Seq.{getD-take, getD-drop}
 use Rattle.promise.specs.Tell.{Kind}
-use Rattle.promise.specs.Book.{Tag, tagOf, isUnknown, isMisplaced, allows, chosen, fieldFault, Item, tellsFrom, answersFrom, contents, unlessFault, itemsFrom, itemsOf}
-
--- the length that the field at q gives
-abbrev pub lengthAt : List ℕ → ℕ → ℕ
-lengthAt book q = getD book (q + 1) 0 * 256 + getD book (q + 2) 0
+use Rattle.promise.specs.Book.{Tag, tagOf, isUnknown, isMisplaced, allows, chosen, fieldFault, lengthAt, Item, tellsFrom, answersFrom, contents, unlessFault, itemsFrom, itemsOf}
 
 -- q is the first byte of a field: the first of the book, or the one behind a whole field
 pub data FieldAt (book : List ℕ) : ℕ → Type 0 where

@@ -3,12 +3,12 @@
 -- Assumes nothing.
 use mathlib.Core.Path.{_≡_, refl, sym, _∙_, ap, ap₂, subst}
 use mathlib.Core.Logic.{_≢_}
-use mathlib.Core.List.{List, [], _∷_, _++_}
-use Prim.Native.Nat.{ℕ, suc, _≤_, _<_}
+use mathlib.Core.List.{List, [], _∷_, _++_, append-assoc}
+use Prim.Native.Nat.{ℕ, suc, _+_, _≤_, _<_}
 use native.Mathlib.Decide.{ℕ-discrete, decLt}
 use native.Mathlib.Omega.{arith}
-use lib.ListN.{length, getD, set, drop, length-append, length-drop}
-use lib.Seq.{drop-cons, append-snoc, set-at}
+use lib.ListN.{length, getD, set, take, drop, length-append, length-drop}
+use lib.Seq.{drop-cons, append-snoc, drop-append-add, drop-drop, set-at, take-at}
 use Rattle.order.specs.Refusals.{Condition, First}
 use Rattle.order.proofs.Refusals.{first-unique}
 use Rattle.promise.specs.declared.Wrote.{Wrote}
@@ -36,6 +36,25 @@ over-more w out i x e h =
     ∙ set-at w (getD out (length w) 0) (drop (suc (length w)) out) x i e
     ∙ sym (append-snoc w x (drop (suc (length w)) out))
     ∙ ap (λ (k : ℕ). w ++ (x ∷ []) ++ drop k out) more
+
+-- and so do more bytes
+pub over-append :
+    (w x out : List ℕ) (i : ℕ) → length w ≡ i
+    → take i (over w out) ++ (x ++ drop (i + length x) (over w out)) ≡ over (w ++ x) out
+over-append w x out i e =
+    let rest = drop (length w) out in
+    let behind : drop (i + length x) (over w out) ≡ drop (length (w ++ x)) out =
+    ap (λ (k : ℕ). drop (k + length x) (over w out)) (sym e)
+    ∙ drop-append-add w rest (length x)
+    ∙ drop-drop (length x) (length w) out
+    ∙ ap (λ (k : ℕ). drop k out) (sym (length-append w x))
+    in
+    ap₂ (λ (u v : List ℕ). u ++ (x ++ v)) (take-at w rest i e) behind ∙ sym (append-assoc w x (drop (length (w ++ x)) out))
+
+-- an empty part of a buffer is lent, so nothing is written
+pub lent-none : (l out : List ℕ) → length l ≡ 0 → l ++ out ≡ out
+lent-none [] out e = refl
+lent-none (x ∷ l) out e = absurd (omega arith)
 
 -- whether a buffer is too short, where one list is to be written
 unfoldable pub too-short? :

@@ -14,8 +14,7 @@ use lib.ListN.{length, getD, take, drop, length-drop, drop-of-length-le}
 use lib.Seq.{take-nil, slice, slice-cons, slice-empty, drop-cons, drop-drop}
 use Rattle.order.specs.Refusals.{Condition, First}
 use Rattle.promise.specs.Tell.{Kind}
-use Rattle.promise.specs.Book.{tagOf, isUnknown, isMisplaced, allows, chosen, fieldFault, Item, tellsFrom, answersFrom, contents, unlessFault, ending, itemsFrom, itemsOf}
-use Rattle.promise.proofs.Book.{lengthAt}
+use Rattle.promise.specs.Book.{tagOf, isUnknown, isMisplaced, allows, chosen, fieldFault, lengthAt, Item, tellsFrom, answersFrom, contents, unlessFault, ending, itemsFrom, itemsOf}
 
 -- as many fields as there are bytes are enough
 items-fuel :

@@ -4,7 +4,7 @@ use mathlib.Core.Bool.{Bool, true, false, not}
 use mathlib.Core.List.{List, [], _∷_, _++_}
 use Prim.Native.Nat.{ℕ, zero, suc, _+_, _*_, _%_}
 use lib.Dec.{eqb, ltb}
-use lib.ListN.{length, take, drop}
+use lib.ListN.{length, getD, take, drop}
 use Rattle.promise.specs.Tell.{Kind}
 
 -- the four tags, and any other
@@ -71,6 +71,10 @@ fieldFault first tag len room =
     ∷ record { number = 13; there = not (allows tag len) }
     ∷ record { number = 10; there = ltb room len }
     ∷ [])
+
+-- the length that the field at an index gives, "high byte first"
+abbrev pub lengthAt : List ℕ → ℕ → ℕ
+lengthAt book at = getD book (at + 1) 0 * 256 + getD book (at + 2) 0
 
 -- What a book says, each thing with its place: a class count, at its tag byte; a fact, at its first byte; or a fault, at the tag byte
 -- of its field, where the book is given up.

@@ -48,3 +48,22 @@ pub const STILL_OPEN: u8 = 7;
 pub const NO_ROOM: u8 = 8;
 
 pub const NO_LADDER: u8 = 9;
+
+pub const CUT_SHORT: u8 = 10;
+
+pub const UNKNOWN_TAG: u8 = 11;
+
+pub const MISPLACED_TAG: u8 = 12;
+
+pub const BAD_LENGTH: u8 = 13;
+
+pub const BAD_VERDICT: u8 = 14;
+
+// The tags of a book's fields.
+pub const CLASS_COUNT: u8 = 1;
+
+pub const YES_FACTS: u8 = 2;
+
+pub const NO_FACTS: u8 = 3;
+
+pub const ANSWERS: u8 = 4;

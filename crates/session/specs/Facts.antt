@@ -22,9 +22,13 @@ abbrev pub countOf : Bool → ℕ
 countOf true = 1
 countOf false = 0
 
+-- the reply with a number and a place
+abbrev pub stoppedAt : ℕ → ℕ → Session → Reply
+stoppedAt number place s = record { number = number; place = place; session = s }
+
 -- the reply with a number, outside books
 abbrev pub replyOf : ℕ → Session → Reply
-replyOf number s = record { number = number; place = 0; session = s }
+replyOf number s = stoppedAt number 0 s
 
 -- a fact on a settled pair is accepted where it agrees, and contradicts where not
 abbrev pub Judged : Session → Bool → Reply → Type 0

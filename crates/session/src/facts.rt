@@ -37,7 +37,7 @@ fn judge(session: Session, agrees: bool) -> Reply
 }
 
 // A fact is taken in by a session and a table for which none of the refusals 1 to 4 is due.
-fn take_standing(
+pub fn take_standing(
     session: Session,
     table: &mut [u8],
     lower: usize,

@@ -2,6 +2,7 @@
 mod facts;
 mod replies;
 
+pub use facts::take_standing;
 use promise::BAD_COUNT;
 use promise::MOST_CLASSES;
 use promise::Question;
@@ -9,9 +10,10 @@ use promise::Reply;
 use promise::SHORT_TABLE;
 use promise::Session;
 pub use replies::accepted;
-use replies::no_session;
+pub use replies::no_session;
 use replies::refused;
 use replies::started;
+pub use replies::stopped;
 ghost use Rattle.promise.specs.Fresh.{Freshened};
 ghost use Rattle.promise.specs.Next.{Asked};
 ghost use Rattle.promise.specs.Tell.{Told, Answered};

@@ -4,7 +4,7 @@ use promise::Session;
 ghost use mathlib.Core.Path.{_≡_};
 ghost use Prim.Native.Nat.{_<_};
 ghost use Rattle.promise.specs.Sessions.{noSession, started as startedWith, tested as testedBy};
-ghost use Rattle.session.specs.Facts.{replyOf, countOf};
+ghost use Rattle.session.specs.Facts.{stoppedAt, replyOf, countOf};
 
 // The session where no class count was accepted.
 pub fn no_session() -> Session
@@ -40,15 +40,22 @@ pub fn tested(session: Session, counts: bool) -> Session
     session
 }
 
+// A refusal with its place.
+pub fn stopped(number: u8, place: usize, session: Session) -> Reply
+    ensures { λ r. ⌜ r ≡ stoppedAt number place session ⌝ }
+{
+    Reply {
+        number: number,
+        place: place,
+        session: session,
+    }
+}
+
 // A refusal outside books.
 pub fn refused(number: u8, session: Session) -> Reply
     ensures { λ r. ⌜ r ≡ replyOf number session ⌝ }
 {
-    Reply {
-        number: number,
-        place: 0,
-        session: session,
-    }
+    stopped(number, 0, session)
 }
 
 // An accepted call.

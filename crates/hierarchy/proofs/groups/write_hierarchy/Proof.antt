@@ -4,9 +4,10 @@ use mathlib.Core.Path.{_≡_}
 use mathlib.Core.List.{_++_}
 use native.Mathlib.Omega.{arith}
 use borrow.Author.Needs.{needs}
+use Rattle.promise.proofs.Buffers.{lent-none}
 use Rattle.promise.proofs.Triangles.{steps-few}
 use Rattle.table.proofs.Index.{square}
-use Rattle.hierarchy.proofs.Outcomes.{lent-none, heads-short, steps-short, hierarchy-done}
+use Rattle.hierarchy.proofs.Outcomes.{heads-short, steps-short, hierarchy-done}
 use Rattle.hierarchy.proofs.groups.write_hierarchy.Statement.{statement}
 use Rattle.hierarchy.proofs.groups.write_hierarchy.Tie as tie
 

@@ -1,0 +1,179 @@
+-- The fields that are placed make the book, and what each way out of write owes.
+-- Assumes nothing.
+use mathlib.Core.Path.{_≡_, refl, sym, _∙_, ap, ap₂}
+use mathlib.Core.Logic.{_≢_, inl, inr}
+use mathlib.Core.List.{List, [], _∷_, _++_, append-assoc}
+use Prim.Native.Nat.{ℕ, _+_, _*_, _/_, _%_, _≤_, _<_}
+use native.Mathlib.Omega.{arith}
+use lib.ListN.{length, set, length-append}
+use Rattle.order.specs.Pairs.{Pair, bytesOf}
+use Rattle.order.specs.Refusals.{First}
+use Rattle.order.proofs.Pairs.{lists-unique, pairsOf, before-all, pairs-listed, length-bytes}
+use Rattle.order.proofs.Counting.{before-length}
+use Rattle.promise.specs.declared.Session.{Session}
+use Rattle.promise.specs.declared.Wrote.{Wrote}
+use Rattle.promise.specs.declared.Wrote.the-variants.{Count, Refused}
+use Rattle.promise.specs.Refusals.{standing}
+use Rattle.promise.specs.Buffers.{over}
+use Rattle.promise.specs.Write.{field, Marked, BookOf, writeRefusals, BookWritten}
+use Rattle.promise.proofs.Standing.{Stands, standing-refused, first-stands}
+use Rattle.promise.proofs.Buffers.{over-more, writes-refused}
+use Rattle.promise.proofs.Write.{Off, off?, book-length, book-longest}
+use Rattle.table.specs.Shape.{Shape}
+use Rattle.table.proofs.Index.{square}
+use Rattle.book.specs.Fields.{Placed, PairsNoted, FieldFits, FieldPlaced, BookFits, BookPlaced, BookLeft}
+use Rattle.book.proofs.Placing.{part, replaced, part-length, part-placed, placed-before, placed-behind}
+
+-- the pairs with one mark are few, for they are at most n * n
+marked-few : (n : ℕ) (t : List ℕ) (m : ℕ) {l : List Pair} → n ≤ 128 → Marked n t m l → length l ≤ 16384
+marked-few n t m few h =
+    let P = Off n t m in
+    let dec = off? n t m in
+    omega (
+      arith,
+      ap (λ (u : List Pair). length u) (lists-unique h (pairs-listed P dec n) ∙ sym (before-all P dec n)),
+      before-length P dec n n 0,
+      square n few,
+    )
+
+-- one field
+
+module _ {n : ℕ} {t : List ℕ} {tag m : ℕ} {out : List ℕ} {at : ℕ} (fits : FieldFits n t tag m out at) where
+  -- there is room for its head
+  pub head-fits : at + 3 ≤ length out
+  head-fits = omega (arith, fits .room (pairsOf (Off n t m) (off? n t m) n) (pairs-listed (Off n t m) (off? n t m) n))
+
+  pub contents-small : {out₁ out₂ : List ℕ} {count : ℕ} → PairsNoted n t m out₁ count out₂ → 2 * count ≤ 32768
+  contents-small (l, listed, noted) = omega (arith, noted .counted, marked-few n t m (fits .shape .few) listed)
+
+  -- its head is placed before its pairs
+  pub field-placed :
+      {u out₂ : List ℕ} {count : ℕ} → PairsNoted n t m (part (at + 3) out) count u
+      → Placed (tag ∷ 2 * count / 256 ∷ 2 * count % 256 ∷ []) at (replaced (at + 3) out u) out₂
+      → FieldPlaced n t tag m out at (at + 3 + 2 * count) out₂
+  field-placed {u} {out₂} {count} (l, listed, noted) head =
+      let size : 2 * count ≡ length (bytesOf l) = omega (arith, noted .counted, length-bytes l) in
+      let room = fits .room l listed in
+      record {
+        pairs = l;
+        listed = listed;
+        placed =
+            placed-before (tag ∷ length (bytesOf l) / 256 ∷ length (bytesOf l) % 256 ∷ []) (bytesOf l) at 3 out refl head-fits
+            (part-placed (at + 3) out (bytesOf l) u (noted .written (omega (arith, part-length (at + 3) out))))
+            (rw size at head);
+        ends = omega arith;
+      }
+
+-- the three fields
+
+module _ {n : ℕ} {t : List ℕ} {ys zs : List Pair} (yes-listed : Marked n t 1 ys) (no-listed : Marked n t 2 zs) where
+  pub book-of : BookOf n t (field 1 (n ∷ []) ++ (field 2 (bytesOf ys) ++ field 3 (bytesOf zs)))
+  book-of =
+      record { yes-pairs = ys; no-pairs = zs; yes-listed = yes-listed; no-listed = no-listed; bytes = refl }
+
+  pub book-size : (book : List ℕ) → BookOf n t book → length book ≡ 10 + 2 * (length ys + length zs)
+  book-size book h =
+      book-length h
+      ∙ ap₂ (λ (x y : List Pair). 10 + 2 * (length x + length y)) (lists-unique (h .yes-listed) yes-listed)
+      (lists-unique (h .no-listed) no-listed)
+
+module _ {n : ℕ} {t out : List ℕ} (fits : BookFits n t out) where
+  both-fit :
+      {ys zs : List Pair} → Marked n t 1 ys → Marked n t 2 zs → 10 + 2 * (length ys + length zs) ≤ length out
+  both-fit p q = omega (arith, fits .room _ (book-of p q), book-size p q _ (book-of p q))
+
+  some-no : Marked n t 2 (pairsOf (Off n t 2) (off? n t 2) n)
+  some-no = pairs-listed (Off n t 2) (off? n t 2) n
+
+  pub front-fits : 10 ≤ length out
+  front-fits = omega (arith, both-fit (pairs-listed (Off n t 1) (off? n t 1) n) some-no)
+
+  pub yes-fits : (out₁ : List ℕ) → length out₁ ≡ length out → FieldFits n t 2 1 out₁ 4
+  yes-fits out₁ e =
+      record { shape = fits .shape; room = λ l p. omega (arith, length-bytes l, both-fit p some-no) }
+
+  pub no-fits :
+      {out₁ : List ℕ} {behind : ℕ} (out₂ : List ℕ) → FieldPlaced n t 2 1 out₁ 4 behind out₂ → length out₂ ≡ length out
+      → FieldFits n t 3 2 out₂ behind
+  no-fits out₂ h e =
+      record {
+        shape = fits .shape;
+        room = λ l p.
+            omega (arith, h .ends, length-bytes (h .pairs), length-bytes l, both-fit (h .listed) p);
+      }
+
+  pub book-placed :
+      {out₁ out₂ out₃ : List ℕ} {behind size : ℕ} → Placed (1 ∷ 0 ∷ 1 ∷ []) 0 out out₁
+      → FieldPlaced n t 2 1 (set out₁ 3 n) 4 behind out₂ → FieldPlaced n t 3 2 out₂ behind size out₃
+      → BookPlaced n t out size out₃
+  book-placed {out₁} {out₂} {out₃} {behind} {size} head h k =
+      let first = field 1 (n ∷ []) in
+      let second = field 2 (bytesOf (h .pairs)) in
+      let third = field 3 (bytesOf (k .pairs)) in
+      let one : set out₁ 3 n ≡ over first out =
+      ap (λ (u : List ℕ). set u 3 n) (placed-behind [] out refl refl head)
+      ∙ over-more (1 ∷ 0 ∷ 1 ∷ []) out 3 n refl (omega (arith, front-fits))
+      in
+      let two : out₂ ≡ over (first ++ second) out = placed-behind first out one refl (h .placed) in
+      let three : out₃ ≡ over (first ++ second ++ third) out =
+      placed-behind (first ++ second) out two (omega (arith, h .ends, length-append first second)) (k .placed)
+      in
+      record {
+        book = first ++ (second ++ third);
+        is = book-of (h .listed) (k .listed);
+        long =
+            omega (arith, h .ends, k .ends, length-append first (second ++ third), length-append second third);
+        placed = three ∙ ap (λ (u : List ℕ). over u out) (append-assoc first second third);
+      }
+
+-- the whole call
+
+module _
+    (n : ℕ) (t : List ℕ) {out₁ out₂ out₃ out₄ : List ℕ} {yes no : ℕ} (ys : PairsNoted n t 1 out₁ yes out₂)
+    (zs : PairsNoted n t 2 out₃ no out₄)
+  where
+    counted : (book : List ℕ) → BookOf n t book → length book ≡ 10 + 2 * (yes + no)
+    counted book h = omega (arith, ys .2 .counted, zs .2 .counted, book-size (ys .1) (zs .1) book h)
+
+    pub counts-few : n ≤ 128 → 10 + 2 * (yes + no) ≤ 32522
+    counts-few few =
+        let book = book-of (ys .1) (zs .1) in
+        omega (arith, counted _ book, book-longest book few)
+
+    pub book-short : (out : List ℕ) → length out < 10 + 2 * (yes + no) → BookLeft n t out (Refused 8 0) out
+    book-short out short =
+        let book = book-of (ys .1) (zs .1) in
+        record {
+          number = inl ((_, book, omega (arith, counted _ book)), refl);
+          place = refl;
+          buffer = (λ e. omega arith, refl);
+        }
+
+    pub book-fits : (out : List ℕ) → Shape n t → 10 + 2 * (yes + no) ≤ length out → BookFits n t out
+    book-fits out shape room =
+        record { shape = shape; room = λ book h. omega (arith, counted book h) }
+
+pub book-done :
+    {n : ℕ} {t out out′ : List ℕ} {size : ℕ} → BookFits n t out → BookPlaced n t out size out′
+    → BookLeft n t out (Count size) out′
+book-done fits h =
+    record {
+      number = inr (λ z. omega (arith, z .2, fits .room (z .0) (z .1)), refl);
+      place = refl;
+      buffer = (h .book, h .is, h .long, h .placed);
+    }
+
+module _ (s : Session) (t out : List ℕ) where
+  pub write-standing : (k : ℕ) → First (standing s t []) k → k ≢ 0 → BookWritten s t out (Refused k 0) out
+  write-standing k f e =
+      writes-refused (standing s t (writeRefusals s t out)) (BookOf (s .classes) t) out
+      (standing-refused (writeRefusals s t out) s t k f e) e
+
+  pub write-left :
+      {r : Wrote} {out′ : List ℕ} → Stands s t → BookLeft (s .classes) t out r out′ → BookWritten s t out r out′
+  write-left st h =
+      record {
+        number = first-stands (writeRefusals s t out) st (h .number);
+        place = h .place;
+        buffer = h .buffer;
+      }
