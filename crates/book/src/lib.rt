@@ -1,4 +1,5 @@
-// The public call that writes the fact book of a table.
+// The calls read and write. Neither has a requires: any bytes, class count, tally, table and buffer get an answer or a refusal.
 mod writing;
 
+pub use reading::read;
 pub use writing::write;

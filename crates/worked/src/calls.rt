@@ -75,3 +75,18 @@ pub fn ladder(session: Session, table: &[u8], a: usize, b: usize, rungs: &mut [u
     print::bytes(&*rungs);
     text(b"\n");
 }
+
+pub fn read(book: &[u8], table: &mut [u8]) {
+    let reply = book::read(book, &mut *table);
+    text(b"read: ");
+    print::line(reply, &*table);
+}
+
+pub fn write(session: Session, table: &[u8], out: &mut [u8]) {
+    let wrote = book::write(session, table, &mut *out);
+    text(b"write:");
+    print::wrote(wrote);
+    text(b" bytes");
+    print::bytes(&*out);
+    text(b"\n");
+}

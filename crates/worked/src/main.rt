@@ -1,5 +1,6 @@
 // The worked marks of document 01, run one by one. The stored output is worked out by hand from those marks and 01's rules. It is not
 // taken from this program.
+mod books;
 mod calls;
 mod print;
 mod settled;
@@ -120,4 +121,8 @@ fn main() {
     settled::two_ways();
     settled::one_class();
     settled::refused();
+    books::written();
+    books::example();
+    books::faults();
+    books::stopped();
 }

@@ -1,0 +1,4 @@
+pub mod Tags
+pub mod Following
+pub mod Faults
+pub mod Advance
