@@ -14,7 +14,7 @@ use lib.ListN.{length, getD, take, drop, length-drop, drop-of-length-le}
 use lib.Seq.{take-nil, slice, slice-cons, slice-empty, drop-cons, drop-drop}
 use Rattle.order.specs.Refusals.{Condition, First}
 use Rattle.promise.specs.Tell.{Kind}
-use Rattle.promise.specs.Book.{tagOf, isUnknown, isMisplaced, allows, chosen, fieldFault, lengthAt, Item, tellsFrom, answersFrom, contents, unlessFault, ending, itemsFrom, itemsOf}
+use Rattle.promise.specs.Book.{tagOf, isUnknown, isMisplaced, allows, chosen, fieldFault, lengthAt, Item, tellsFrom, answersFrom, contents, unlessFault, ending, itemsFrom}
 
 -- as many fields as there are bytes are enough
 items-fuel :
@@ -40,9 +40,6 @@ items-fuel (suc k) (suc k₂) first at (tag ∷ hi ∷ lo ∷ rest) h h₂ =
 -- the items from place at on
 abbrev pub itemsAt : List ℕ → Bool → ℕ → List Item
 itemsAt book first at = itemsFrom (length book) first at (drop at book)
-
-pub items-start : (book : List ℕ) → itemsAt book true 0 ≡ itemsOf book
-items-start book = refl
 
 -- at the end of the book
 pub items-end : (book : List ℕ) (first : Bool) → itemsAt book first (length book) ≡ ending first
