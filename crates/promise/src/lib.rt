@@ -1,6 +1,7 @@
 // The values that the public calls take and give. There is no code here; specs/ says what each call owes.
 
 // The class count, and the tally of tests.
+#[repr(C)]
 pub struct Session {
     pub classes: usize,
     pub tests: usize,
@@ -8,6 +9,7 @@ pub struct Session {
 
 // What fresh, tell, answer and read give: the refusal number, 0 where the call was accepted; its place, 0 outside books; the session
 // that holds from now on.
+#[repr(C)]
 pub struct Reply {
     pub number: u8,
     pub place: usize,
