@@ -1,0 +1,172 @@
+-- What next and hierarchy give where refusals 1 to 4 are not due, and what is then said of the table.
+-- Assumes nothing.
+use mathlib.Core.Path.{_≡_, refl, sym, _∙_, ap, subst}
+use mathlib.Core.Logic.{_≢_, _⊎_, inl, inr}
+use mathlib.Core.List.{List, [], _∷_, _++_}
+use Prim.Native.Nat.{ℕ, _+_, _*_, _≤_, _<_}
+use native.Mathlib.Omega.{arith}
+use native.Mathlib.Nat.{mul-le-mul, min-le-left}
+use lib.ListN.{length, take, length-append, length-take}
+use lib.Seq.{take-at}
+use Rattle.order.specs.Tables.{opens}
+use Rattle.order.specs.Pairs.{Pair, bytesOf}
+use Rattle.order.specs.Refusals.{First}
+use Rattle.promise.specs.declared.Session.{Session}
+use Rattle.promise.specs.declared.Reply.{Reply}
+use Rattle.promise.specs.declared.Question.{Question}
+use Rattle.promise.specs.declared.Question.the-variants.{Ask, Done, Refused}
+use Rattle.promise.specs.declared.Wrote.{Wrote}
+use Rattle.promise.specs.declared.Wrote.the-variants.{Count}
+use Rattle.promise.specs.Refusals.{standing}
+use Rattle.promise.specs.Buffers.{over, numberOf}
+use Rattle.promise.specs.Next.{FirstOpen, Asked}
+use Rattle.promise.specs.Hierarchy.{HeadsOf, StepsOf, hierarchyRefusals, HierarchyWritten}
+use Rattle.promise.proofs.Standing.{Stands, standing-passed, stands-first}
+use Rattle.promise.proofs.Next.{done-exactly}
+use Rattle.promise.proofs.Triangles.{steps-few, hierarchy-room}
+use Rattle.table.specs.Shape.{Shape}
+use Rattle.lines.specs.Lines.{labelled, countsLine, refusalLine, Shows, capital-N, capital-T, capital-O, space, line-feed, classLines, stepLines}
+use Rattle.lines.specs.Put.{Put, pairsIn, QuestionPut, Settled, SettledPut, Reportable, Reported}
+use Rattle.lines.proofs.Putting.{put-then, decimal-short}
+use Rattle.lines.proofs.LineByLine.{pairs-back, class-lines-short}
+
+pub counts-short : (n t o : ℕ) → length (countsLine n t o) ≤ 24
+counts-short n t o =
+    let last : List ℕ = labelled capital-O o ++ (line-feed ∷ []) in
+    omega (
+      arith,
+      length-append (labelled capital-N n) (space ∷ labelled capital-T t ++ (space ∷ last)),
+      length-append (labelled capital-T t) (space ∷ last),
+      length-append (labelled capital-O o) (line-feed ∷ []),
+      decimal-short n,
+      decimal-short t,
+      decimal-short o,
+    )
+
+-- the pair asked about is the first open one
+pub asked-first :
+    {s : Session} {t : List ℕ} {q : Question} {a b : ℕ} → Asked s t q → q ≡ Ask a b → FirstOpen (s .classes) t a b
+asked-first {s} {t} h e = (rw e at h) .says
+
+-- where a pair is open next is not done
+pub never-done : {s : Session} {t : List ℕ} {q : Question} → 0 < opens (s .classes) t → Asked s t q → q ≡ Done → ⊥
+never-done {s} {t} o h e = let d = rw e at h in omega (arith, done-exactly {s = s} {t = t} d refl .0 refl)
+
+-- where refusals 1 to 4 are not due next refuses nothing
+pub never-refused :
+    {s : Session} {t : List ℕ} {q : Question} {number place : ℕ} → First (standing s t []) 0 → Asked s t q
+    → q ≡ Refused number place → ⊥
+never-refused {s} {t} st h e = let r = rw e at h in r .says (stands-first [] (standing-passed [] st .0) (r .number))
+
+module _ {s : Session} {t heads steps text : List ℕ} {at : ℕ} (ready : Settled s t heads steps text at) where
+  stands : Stands s t
+  stands = standing-passed [] (ready .stands) .0
+
+  pub classes-few : s .classes ≤ 128
+  classes-few = stands .few
+
+  -- the lines of the classes leave room for those of the steps
+  pub classes-end :
+      (heads′ : List ℕ) {behind : ℕ} {text₁ : List ℕ} → Put (classLines 0 (take (s .classes) heads′)) at text behind text₁
+      → behind ≤ at + 14 * 128
+  classes-end heads′ h =
+      omega (
+        arith,
+        stands .few,
+        h .ends,
+        class-lines-short 0 (take (s .classes) heads′),
+        length-take (s .classes) heads′,
+        min-le-left (s .classes) (length heads′),
+      )
+
+  module _ {w : Wrote} {heads′ steps′ : List ℕ} (h : HierarchyWritten s t heads steps w heads′ steps′) where
+    -- where no pair is open and there is room hierarchy refuses nothing
+    pub never-refused-here : {number place : ℕ} → w ≡ Wrote.Refused number place → ⊥
+    never-refused-here e =
+        let r = rw e at h in
+        go (hierarchy-room (ready .heads-room) (ready .steps-room) r) (r .buffers .0)
+        (stands-first (hierarchyRefusals s t heads steps) stands (r .number))
+      where
+        go : {k : ℕ} → k ≢ 8 → k ≢ 0 → First (hierarchyRefusals s t heads steps) k → ⊥
+        go ne nz (inl (some, e)) = omega (arith, ready .none-open)
+        go ne nz (inr (_, inl (short, e))) = ne e
+        go ne nz (inr (_, inr (_, e))) = nz e
+
+    -- the steps that were counted are few
+    pub steps-counted : {count : ℕ} → w ≡ Count count → count ≤ 4096
+    steps-counted e =
+        let listed = (rw e at h) .buffers .1 in
+        omega (
+          arith,
+          listed .2,
+          steps-few (stands .sound) (listed .1),
+          mul-le-mul {n₁ = s .classes} {m₁ = s .classes} {n₂ = 128} {m₂ = 128} (stands .few) (stands .few),
+        )
+
+    -- the lines of what was written say what they should
+    pub settled-put :
+        {count behind end : ℕ} {text₁ text₂ : List ℕ} → w ≡ Count count
+        → Put (classLines 0 (take (s .classes) heads′)) at text behind text₁
+        → Put (stepLines (pairsIn count steps′)) behind text₁ end text₂ → SettledPut (s .classes) t at text end text₂
+    settled-put {count} {behind} {end} {text₁} {text₂} e classes listed =
+        let (found, (l, is, long, wrote)) = (rw e at h) .buffers in
+        let same-heads : take (s .classes) heads′ ≡ found .0 =
+        ap (λ (u : List ℕ). take (s .classes) u) (found .2) ∙ take-at (found .0) _ (s .classes) (found .1 .size)
+        in
+        let same-steps : pairsIn count steps′ ≡ l =
+        ap (λ (u : List ℕ). pairsIn count u) wrote ∙ ap (λ (k : ℕ). pairsIn k (over (bytesOf l) steps)) long ∙ pairs-back l _
+        in
+        record {
+          heads = found .0;
+          steps = l;
+          heads-of = found .1;
+          steps-of = is;
+          put = put-then (rw same-heads at classes) (rw same-steps at listed);
+        }
+
+-- the table of an accepted book has its shape
+pub ready-shape :
+    {r : Reply} {t heads steps text : List ℕ} → Reportable r t heads steps text → r .number ≡ 0 → Shape (r .session .classes) t
+ready-shape {r} ready accepted =
+    let st = standing-passed [] (ready .stands accepted) .0 in
+    record { few = st .few; room = st .room }
+
+-- the line of a refused book
+pub reported-refused :
+    {r : Reply} {t text text′ : List ℕ} {size : ℕ} → r .number ≢ 0
+    → Put (refusalLine (r .number) (r .place)) 0 text size text′ → Reported r t text size text′
+reported-refused refused h =
+    record {
+      written = _;
+      says = record { refused = λ _. refl; accepted = λ z. absurd (refused z) };
+      put = h;
+    }
+
+-- the lines of an accepted book whose table has no open pair
+pub reported-settled :
+    {r : Reply} {t text text₁ text₂ : List ℕ} {count behind end : ℕ} → r .number ≡ 0 → count ≡ opens (r .session .classes) t
+    → count ≡ 0 → Put (countsLine (r .session .classes) (r .session .tests) count) 0 text behind text₁
+    → SettledPut (r .session .classes) t behind text₁ end text₂ → Reported r t text end text₂
+reported-settled accepted same none counts settled =
+    record {
+      written = _;
+      says =
+          record {
+            refused = λ ne. absurd (ne accepted);
+            accepted = λ _. Shows.settled (sym same ∙ none) (settled .heads-of) (settled .steps-of);
+          };
+      put = put-then (rw none at counts) (settled .put);
+    }
+
+-- the lines of an accepted book whose table has one
+pub reported-open :
+    {r : Reply} {t text text₁ text₂ : List ℕ} {count behind end : ℕ} → r .number ≡ 0 → count ≡ opens (r .session .classes) t
+    → Put (countsLine (r .session .classes) (r .session .tests) count) 0 text behind text₁
+    → QuestionPut (r .session .classes) t behind text₁ end text₂ → Reported r t text end text₂
+reported-open accepted same counts question =
+    record {
+      written = _;
+      says =
+          record { refused = λ ne. absurd (ne accepted); accepted = λ _. Shows.asks (question .first) };
+      put = put-then (rw same at counts) (question .put);
+    }

@@ -1,0 +1,68 @@
+-- `lines::listing::put_classes` meets its contract: the lines of the classes passed stand there.
+-- Assumes nothing.
+use mathlib.Core.Path.{_≡_}
+use Prim.Native.Nat.{_-_, _≤_}
+use native.Mathlib.Omega.{arith}
+use lib.ListN.{take}
+use Rattle.lines.specs.Lines.{classLines}
+use Rattle.lines.proofs.Putting.{put-length}
+use Rattle.lines.proofs.LineByLine.{LinesPut, no-line, class-put}
+use Rattle.lines.proofs.listing.put_classes.Statement.{statement}
+use Rattle.lines.proofs.listing.put_classes.Tie as tie
+
+abbrev Inv-loop : tie.InvT-loop
+Inv-loop n heads text₀ at behind₀ i₀ text behind i =
+    (i ≤ n) × LinesPut i (classLines 0 (take i heads)) at text₀ behind text
+
+abbrev μ-loop : tie.MeasureT-loop
+μ-loop n heads text₀ at behind₀ i₀ text behind i = n - i
+
+loop-holds : tie.Need-loop-holds Inv-loop μ-loop
+loop-holds c = (omega arith, no-line (omega (arith, c .before .before .pre .1)))
+
+shared-slice-read-put-line : tie.Need-shared-slice-read-put-line Inv-loop μ-loop
+shared-slice-read-put-line c = omega (arith, c .before .before .before .before .before .before .pre .0)
+
+cast-put-line : tie.Need-cast-put-line Inv-loop μ-loop
+cast-put-line c = omega (arith, c .shared-slice-known2 .given (c .before .before .before .loop .i))
+
+put-line-requires : tie.Need-put-line-requires Inv-loop μ-loop
+put-line-requires c κs =
+    let l = c .before .before .before .loop .inv .1 in
+    omega (arith, c .before .before .before .before .before .before .pre .1, l .short, put-length (l .put))
+
+add-i : tie.Need-add-i Inv-loop μ-loop
+add-i c = omega arith
+
+loop-less : tie.Need-loop-less Inv-loop μ-loop
+loop-less c = omega arith
+
+loop-again : tie.Need-loop-again Inv-loop μ-loop
+loop-again c =
+    let s = c .before .before .before .before .before .before .before .before .before in
+    let l = c .before .before .before .before .before .before .loop in
+    (omega arith, class-put (l .i) (s .args .heads .now) (omega (arith, s .pre .0)) (l .inv .1) (c .before .before .put-line .ensures))
+
+same-length : tie.Need-same-length Inv-loop μ-loop
+same-length c = put-length (c .before .loop .inv .1 .put)
+
+returns : tie.Need-returns Inv-loop μ-loop
+returns c =
+    let all : c .before .loop .i ≡ c .before .before .before .before .args .n = omega arith in
+    rw (← all) (c .before .loop .inv .1 .put)
+
+pub put-classes-spec : {M : Type 1} → statement M
+put-classes-spec =
+    tie.close
+    (tie.spec
+    Inv-loop
+    μ-loop
+    loop-holds
+    shared-slice-read-put-line
+    cast-put-line
+    put-line-requires
+    add-i
+    loop-less
+    loop-again
+    same-length
+    returns)

@@ -1,0 +1,87 @@
+-- `lines::listing::put_steps` meets its contract: the lines of the steps passed stand there.
+-- Assumes nothing.
+use mathlib.Core.Path.{_≡_}
+use Prim.Native.Nat.{_+_, _*_, _-_, _≤_}
+use native.Mathlib.Omega.{arith}
+use Rattle.lines.specs.Lines.{stepLines}
+use Rattle.lines.specs.Put.{pairsIn}
+use Rattle.lines.proofs.Putting.{put-length}
+use Rattle.lines.proofs.LineByLine.{LinesPut, no-line, step-put}
+use Rattle.lines.proofs.listing.put_steps.Statement.{statement}
+use Rattle.lines.proofs.listing.put_steps.Tie as tie
+
+abbrev Inv-loop : tie.InvT-loop
+Inv-loop count steps text₀ at behind₀ i₀ text behind i =
+    (i ≤ count) × LinesPut i (stepLines (pairsIn i steps)) at text₀ behind text
+
+abbrev μ-loop : tie.MeasureT-loop
+μ-loop count steps text₀ at behind₀ i₀ text behind i = count - i
+
+loop-holds : tie.Need-loop-holds Inv-loop μ-loop
+loop-holds c = (omega arith, no-line (omega (arith, c .before .before .pre .1)))
+
+mul-lower : tie.Need-mul-lower Inv-loop μ-loop
+mul-lower c = omega (arith, c .before .before .before .before .pre .0)
+
+shared-slice-read-lower : tie.Need-shared-slice-read-lower Inv-loop μ-loop
+shared-slice-read-lower c = omega (arith, c .before .before .before .before .before .pre .0)
+
+cast-lower : tie.Need-cast-lower Inv-loop μ-loop
+cast-lower c = omega (arith, c .shared-slice-known2 .given (2 * c .before .before .loop .i))
+
+mul-upper : tie.Need-mul-upper Inv-loop μ-loop
+mul-upper c = omega (arith, c .before .before .before .before .before .pre .0)
+
+add-upper : tie.Need-add-upper Inv-loop μ-loop
+add-upper c = omega (arith, c .before .before .before .before .before .pre .0)
+
+shared-slice-read-upper : tie.Need-shared-slice-read-upper Inv-loop μ-loop
+shared-slice-read-upper c = omega (arith, c .before .before .before .before .before .before .pre .0)
+
+cast-upper : tie.Need-cast-upper Inv-loop μ-loop
+cast-upper c = omega (arith, c .shared-slice-known3 .given (2 * c .before .before .before .loop .i + 1))
+
+put-line-requires : tie.Need-put-line-requires Inv-loop μ-loop
+put-line-requires c κs =
+    let l = c .before .before .before .before .loop .inv .1 in
+    omega (arith, c .before .before .before .before .before .before .before .pre .1, l .short, put-length (l .put))
+
+add-i : tie.Need-add-i Inv-loop μ-loop
+add-i c = omega arith
+
+loop-less : tie.Need-loop-less Inv-loop μ-loop
+loop-less c = omega arith
+
+loop-again : tie.Need-loop-again Inv-loop μ-loop
+loop-again c =
+    let l = c .before .before .before .before .before .before .before .loop in
+    (omega arith, step-put (l .i) (c .before .before .before .before .before .before .before .before .before .before .args .steps .now) (l .inv .1) (c .before .before .put-line .ensures))
+
+same-length : tie.Need-same-length Inv-loop μ-loop
+same-length c = put-length (c .before .loop .inv .1 .put)
+
+returns : tie.Need-returns Inv-loop μ-loop
+returns c =
+    let all : c .before .loop .i ≡ c .before .before .before .before .args .count = omega arith in
+    rw (← all) (c .before .loop .inv .1 .put)
+
+pub put-steps-spec : {M : Type 1} → statement M
+put-steps-spec =
+    tie.close
+    (tie.spec
+    Inv-loop
+    μ-loop
+    loop-holds
+    mul-lower
+    shared-slice-read-lower
+    cast-lower
+    mul-upper
+    add-upper
+    shared-slice-read-upper
+    cast-upper
+    put-line-requires
+    add-i
+    loop-less
+    loop-again
+    same-length
+    returns)

@@ -1,0 +1,53 @@
+-- `lines::put_question` meets its contract: the pair asked about is the first open one.
+-- Assumes nothing.
+use Rattle.lines.proofs.Saying.{asked-first, never-done, never-refused}
+use borrow.Author.Needs.{needs}
+use Rattle.lines.proofs.put_question.Statement.{statement}
+use Rattle.lines.proofs.put_question.Tie as tie
+
+next-requires : tie.Need-next-requires
+next-requires c κs = search needs
+
+enum-known-question : tie.Need-enum-known-question
+enum-known-question c = search needs
+
+put-line-requires : tie.Need-put-line-requires
+put-line-requires c κs = search needs
+
+enum-told : tie.Need-enum-told
+enum-told c = search needs
+
+enum-told-2 : tie.Need-enum-told-2
+enum-told-2 c = search needs
+
+same-length : tie.Need-same-length
+same-length c = search needs
+
+returns : tie.Need-returns
+returns c =
+    record {
+      lower = _;
+      upper = _;
+      first = asked-first (c .before .before .before .before .before .before .before .next .ensures) (c .before .before .before .before .before .question .given .1);
+      put = c .before .before .put-line .ensures;
+    }
+
+returns-2 : tie.Need-returns-2
+returns-2 c = absurd (never-done (c .before .before .before .before .before .pre .1) (c .before .before .next .ensures) (c .enum-told .given .1))
+
+returns-3 : tie.Need-returns-3
+returns-3 c = absurd (never-refused (c .before .before .before .before .before .pre .0) (c .before .before .next .ensures) (c .enum-told2 .given .1))
+
+pub put-question-spec : {M : Type 1} → statement M
+put-question-spec =
+    tie.close
+    (tie.spec
+    next-requires
+    enum-known-question
+    put-line-requires
+    enum-told
+    enum-told-2
+    same-length
+    returns
+    returns-2
+    returns-3)

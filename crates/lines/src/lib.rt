@@ -1,0 +1,102 @@
+// The lines that the printing program writes, put into a lent buffer.
+mod listing;
+mod text;
+
+use hierarchy::hierarchy;
+use listing::put_classes;
+use listing::put_steps;
+use promise::Question;
+use promise::Reply;
+use promise::Session;
+use promise::Wrote;
+use session::next;
+use table::count_open;
+use text::put_counts;
+use text::put_line;
+ghost use Prim.Native.Nat.{_+_, _<_, _≤_};
+ghost use lib.ListN.{length};
+ghost use Rattle.order.specs.Refusals.{First};
+ghost use Rattle.order.specs.Tables.{opens};
+ghost use Rattle.promise.specs.Refusals.{standing};
+ghost use mathlib.Core.List.{[]};
+ghost use Rattle.lines.specs.Lines.{refusalLine};
+ghost use Rattle.lines.specs.Put.{Put, QuestionPut, SettledPut, Settled, Reportable, Reported};
+
+// The most bytes that the printing program reads.
+pub const MOST_INPUT: usize = 32768;
+
+// The refusal of a longer input.
+pub const TOO_LONG: usize = 15;
+
+// The line of an input that is too long. Gives the number of its bytes.
+pub fn report_too_long(text: &mut [u8]) -> usize
+    requires { ⌜ 14 ≤ length (now text) ⌝ }
+    ensures { λ r. ⌜ Put (refusalLine 15 32768) 0 (now (text .entry)) r (now (text .exit)) ⌝ }
+{
+    put_line(text, 0, b'R', TOO_LONG, MOST_INPUT)
+}
+
+// The next question, where a pair is open.
+fn put_question(session: Session, table: &[u8], text: &mut [u8], at: usize) -> usize
+    requires { ⌜ (First (standing session (now table) []) 0) × (0 < opens (session .classes) (now table)) × (at + 14 ≤ length (now text)) ⌝ }
+    ensures { λ r. ⌜ QuestionPut (session .classes) (now (table .entry)) at (now (text .entry)) r (now (text .exit)) ⌝ }
+{
+    let question = next(session, table);
+    match question {
+        Question::Ask { lower, upper } => put_line(text, at, b'Q', lower, upper),
+        Question::Done => at,
+        Question::Refused {
+            number: _,
+            place: _,
+        } => at,
+    }
+}
+
+// The classes with their heads and the direct steps, where no pair is open.
+fn put_settled(
+    session: Session,
+    table: &[u8],
+    heads: &mut [u8],
+    steps: &mut [u8],
+    text: &mut [u8],
+    at: usize,
+) -> usize
+    requires { ⌜ Settled session (now table) (now heads) (now steps) (now text) at ⌝ }
+    ensures { λ r. ⌜ SettledPut (session .classes) (now (table .entry)) at (now (text .entry)) r (now (text .exit)) ⌝ }
+{
+    let wrote = hierarchy(session, table, &mut *heads, &mut *steps);
+    match wrote {
+        Wrote::Count(count) => {
+            let behind = put_classes(session.classes, &*heads, &mut *text, at);
+            put_steps(count, &*steps, text, behind)
+        }
+        Wrote::Refused {
+            number: _,
+            place: _,
+        } => at,
+    }
+}
+
+// What the printing program writes of a book that was read, with the reply and the table that reading gave. Gives the number of bytes.
+// The buffers for heads and steps are used on the way.
+pub fn report(
+    reply: Reply,
+    table: &[u8],
+    heads: &mut [u8],
+    steps: &mut [u8],
+    text: &mut [u8],
+) -> usize
+    requires { ⌜ Reportable reply (now table) (now heads) (now steps) (now text) ⌝ }
+    ensures { λ r. ⌜ Reported reply (now (table .entry)) (now (text .entry)) r (now (text .exit)) ⌝ }
+{
+    if reply.number != 0 {
+        return put_line(text, 0, b'R', reply.number as usize, reply.place);
+    }
+    let session = reply.session;
+    let pairs = count_open(session.classes, table);
+    let behind = put_counts(&mut *text, session.classes, session.tests, pairs);
+    if pairs == 0 {
+        return put_settled(session, table, heads, steps, text, behind);
+    }
+    put_question(session, table, text, behind)
+}

@@ -1,0 +1,70 @@
+-- `print::answer` meets its contract: the marks of the table that was read are lent.
+-- Assumes nothing.
+use native.Mathlib.Omega.{arith}
+use lib.Seq.{length-take-le}
+use mathlib.Core.Path.{sym}
+use Rattle.print.proofs.Readable.{few-marks, accepted-ready}
+use borrow.Author.Needs.{needs}
+use Rattle.print.proofs.answer.Statement.{statement}
+use Rattle.print.proofs.answer.Tie as tie
+
+read-requires : tie.Need-read-requires
+read-requires c κs = search needs
+
+mul-marks : tie.Need-mul-marks
+mul-marks c = omega (arith, few-marks (c .before .before .before .read .ensures))
+
+slice-reshare-prefix-report : tie.Need-slice-reshare-prefix-report
+slice-reshare-prefix-report c = omega (arith, few-marks (c .before .before .before .read .ensures), c .before .before .before .before .before .before .before .before .before .before .pre .marks-room, c .before .before .before .read .kept .1 .0)
+
+slice-aggregate-report : tie.Need-slice-aggregate-report
+slice-aggregate-report c =
+    let h = c .before .before .before .before .read in
+    sym (length-take-le _ (h .last .1 .0) (omega (arith, few-marks (h .ensures), c .before .before .before .before .before .before .before .before .before .before .before .pre .marks-room, h .kept .1 .0)))
+
+report-requires : tie.Need-report-requires
+report-requires c κs =
+    let s = c .before .before .before .before .before .before .before .before .before .before .before .before .before .before in
+    record {
+      stands = accepted-ready (c .before .before .before .before .before .before .before .read .ensures);
+      heads-room = s .pre .heads-room;
+      steps-room = s .pre .steps-room;
+      text-room = s .pre .text-room;
+    }
+
+same-length : tie.Need-same-length
+same-length c = search needs
+
+same-length-2 : tie.Need-same-length-2
+same-length-2 c = search needs
+
+same-length-3 : tie.Need-same-length-3
+same-length-3 c = search needs
+
+same-length-4 : tie.Need-same-length-4
+same-length-4 c = search needs
+
+returns : tie.Need-returns
+returns c =
+    let h = c .before .before .before .before .before .before .before .before .before .before .before .before .before .before .read in
+    let said = c .before .before .before .before .before .before .report .ensures in
+    record {
+      written = said .written;
+      printed = record { reply = h .result; table = h .last .1 .0; read = h .ensures; says = said .says };
+      put = said .put;
+    }
+
+pub answer-spec : {M : Type 1} → statement M
+answer-spec =
+    tie.close
+    (tie.spec
+    read-requires
+    mul-marks
+    slice-reshare-prefix-report
+    slice-aggregate-report
+    report-requires
+    same-length
+    same-length-2
+    same-length-3
+    same-length-4
+    returns)

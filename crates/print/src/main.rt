@@ -1,0 +1,61 @@
+// The printing program: it reads a book from standard input and writes what the library says of it to standard output.
+mod input;
+
+use dawnhangra::read;
+use input::behind;
+use input::fill;
+use libc::STDERR_FILENO;
+use libc::STDOUT_FILENO;
+use lines::MOST_INPUT;
+use lines::report;
+use lines::report_too_long;
+ghost use Rattle.print.specs.Answers.{Room, Answered};
+
+// What is written of a book. Once the class count is known, the first n*n bytes of the table are what is lent.
+fn answer(
+    book: &[u8],
+    table: &mut [u8],
+    heads: &mut [u8],
+    steps: &mut [u8],
+    text: &mut [u8],
+) -> usize
+    requires { ⌜ Room (now table) (now heads) (now steps) (now text) ⌝ }
+    ensures { λ r. ⌜ Answered (now (book .entry)) (now (table .entry)) (now (text .entry)) r (now (text .exit)) ⌝ }
+{
+    let reply = read(book, &mut *table);
+    let marks = reply.session.classes * reply.session.classes;
+    report(reply, &table[..marks], heads, steps, text)
+}
+
+// A read that fails is no verdict: it is said on standard error alone.
+fn complain() {
+    io::write_all(STDERR_FILENO, b"dawnhangra: the input cannot be read\n");
+}
+
+fn main() {
+    let mut table: [u8; 16384] = [0; 16384];
+    let mut input: [u8; MOST_INPUT] = [0; MOST_INPUT];
+    let mut heads: [u8; 128] = [0; 128];
+    let mut steps: [u8; 8192] = [0; 8192];
+    let mut text: [u8; 65536] = [0; 65536];
+    let filled = fill(&mut input);
+    let more = behind(filled, MOST_INPUT);
+    if more.failed {
+        complain();
+        return;
+    }
+    if more.count != 0 {
+        let size = report_too_long(&mut text);
+        io::write_all(STDOUT_FILENO, &text[..size]);
+        return;
+    }
+    let count = filled.count;
+    let size = answer(
+        &input[..count],
+        &mut table,
+        &mut heads,
+        &mut steps,
+        &mut text,
+    );
+    io::write_all(STDOUT_FILENO, &text[..size]);
+}
