@@ -2,6 +2,7 @@
 //! printing program must answer.
 
 mod book;
+mod calls;
 mod classes;
 mod facts;
 mod hierarchy;
