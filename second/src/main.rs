@@ -4,21 +4,25 @@
 mod book;
 mod calls;
 mod classes;
+mod draw;
 mod facts;
 mod hierarchy;
+mod lines;
 mod marks;
 mod print;
 mod refusal;
+mod sweep;
 
 #[cfg(test)]
 mod tests;
 
 use std::ffi::OsString;
-use std::io::{self, Read, Write};
+use std::io::{self, BufWriter, Read, Write};
 use std::process::ExitCode;
 
 const USAGE: &str = "\
 usage: second print < BOOK
+       second sweep < SEED-AND-ROUNDS
 ";
 
 fn main() -> ExitCode {
@@ -49,6 +53,7 @@ fn run(words: &[OsString]) -> io::Result<bool> {
         .collect();
     match texts.as_slice() {
         ["print"] => print_input()?,
+        ["sweep"] => sweep_input()?,
         _ => return Ok(false),
     }
     io::stdout().flush()?;
@@ -61,4 +66,15 @@ fn print_input() -> io::Result<()> {
     let enough = print::MOST_INPUT as u64 + 1;
     io::stdin().lock().take(enough).read_to_end(&mut input)?;
     io::stdout().write_all(print::printed(&input).as_bytes())
+}
+
+fn sweep_input() -> io::Result<()> {
+    let mut input = Vec::new();
+    io::stdin().lock().read_to_end(&mut input)?;
+    let (seed, rounds) = sweep::seed_and_rounds(&input);
+    let mut sweep = sweep::Sweep::new(seed, BufWriter::new(io::stdout().lock()));
+    for _ in 0..rounds {
+        sweep.round()?;
+    }
+    sweep.flush()
 }

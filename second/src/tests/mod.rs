@@ -1,9 +1,10 @@
-//! Document 01's worked marks and the bytes of its readings. Expected values
-//! are typed in from the documents.
+//! Document 01's worked marks, the bytes of its readings and the protocol of
+//! docs/SWEEP.md. Expected values are typed in from the documents.
 
 mod books;
 mod calls;
 mod print;
+mod sweep;
 
 use crate::calls::{answer, fresh, tell};
 use crate::refusal::{Refusal, Session};

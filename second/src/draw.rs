@@ -1,0 +1,37 @@
+//! Random numbers, the same from the same seed on every machine.
+
+const MODULUS: u64 = 2_147_483_647;
+
+/// docs/SWEEP.md, "Drawing numbers".
+pub struct Draw {
+    state: u64,
+}
+
+impl Draw {
+    /// "The state starts at `seed % 2147483646 + 1`."
+    pub fn new(seed: u64) -> Draw {
+        Draw {
+            state: seed % (MODULUS - 1) + 1,
+        }
+    }
+
+    /// "To draw is to make it `state * 48271 % 2147483647`. `draw k` draws
+    /// once and gives `state % k`." Of nothing to choose from it gives 0.
+    pub fn below(&mut self, k: u64) -> u64 {
+        self.state = self.state * 48_271 % MODULUS;
+        self.state.checked_rem(k).unwrap_or(0)
+    }
+
+    /// The same for sizes and places.
+    pub fn index(&mut self, k: usize) -> usize {
+        self.below(k as u64) as usize
+    }
+}
+
+/// "The digest of some bytes starts at 7, and each byte makes it
+/// `(digest * 31 + byte + 1) % 2147483647`."
+pub fn digest(bytes: &[u8]) -> u64 {
+    bytes.iter().fold(7, |digest, &byte| {
+        (digest * 31 + u64::from(byte) + 1) % MODULUS
+    })
+}
