@@ -15,6 +15,15 @@ impl Draw {
         }
     }
 
+    /// For books: the seed's bits are mixed first, since the draws of
+    /// neighbouring seeds would be too much alike.
+    pub fn scattered(seed: u64) -> Draw {
+        let mut mixed = seed.wrapping_add(0x9e37_79b9_7f4a_7c15);
+        mixed = (mixed ^ (mixed >> 30)).wrapping_mul(0xbf58_476d_1ce4_e5b9);
+        mixed = (mixed ^ (mixed >> 27)).wrapping_mul(0x94d0_49bb_1331_11eb);
+        Draw::new(mixed ^ (mixed >> 31))
+    }
+
     /// "To draw is to make it `state * 48271 % 2147483647`. `draw k` draws
     /// once and gives `state % k`." Of nothing to choose from it gives 0.
     pub fn below(&mut self, k: u64) -> u64 {
@@ -25,6 +34,11 @@ impl Draw {
     /// The same for sizes and places.
     pub fn index(&mut self, k: usize) -> usize {
         self.below(k as u64) as usize
+    }
+
+    /// True once in k times.
+    pub fn once_in(&mut self, k: u64) -> bool {
+        self.below(k) == 0
     }
 }
 

@@ -1,11 +1,15 @@
 //! Says from document 01's definitions, by search, what the library and its
-//! printing program must answer.
+//! printing program must answer, and makes random books to ask them about.
 
 mod book;
+mod books;
 mod calls;
 mod classes;
+mod damage;
 mod draw;
 mod facts;
+mod fields;
+mod hidden;
 mod hierarchy;
 mod lines;
 mod marks;
@@ -17,12 +21,17 @@ mod sweep;
 mod tests;
 
 use std::ffi::OsString;
+use std::fs;
 use std::io::{self, BufWriter, Read, Write};
+use std::path::{Path, PathBuf};
 use std::process::ExitCode;
 
 const USAGE: &str = "\
 usage: second print < BOOK
        second sweep < SEED-AND-ROUNDS
+       second book SEED
+       second books SEED COUNT DIR
+       second prints DIR
 ";
 
 fn main() -> ExitCode {
@@ -51,9 +60,15 @@ fn run(words: &[OsString]) -> io::Result<bool> {
         .iter()
         .map(|word| word.to_str().unwrap_or(""))
         .collect();
-    match texts.as_slice() {
-        ["print"] => print_input()?,
-        ["sweep"] => sweep_input()?,
+    let numbers: Vec<Option<u64>> = texts.iter().map(|text| text.parse().ok()).collect();
+    match (texts.as_slice(), numbers.as_slice()) {
+        (["print"], _) => print_input()?,
+        (["sweep"], _) => sweep_input()?,
+        (["book", _], &[_, Some(seed)]) => io::stdout().write_all(&books::book(seed))?,
+        (["books", ..], &[_, Some(seed), Some(count), _]) => {
+            write_books(seed, count, Path::new(&words[3]))?;
+        }
+        (["prints", _], _) => print_books(Path::new(&words[1]))?,
         _ => return Ok(false),
     }
     io::stdout().flush()?;
@@ -77,4 +92,27 @@ fn sweep_input() -> io::Result<()> {
         sweep.round()?;
     }
     sweep.flush()
+}
+
+/// DIR/0000.book and so on, of seeds from `seed` on.
+fn write_books(seed: u64, count: u64, dir: &Path) -> io::Result<()> {
+    fs::create_dir_all(dir)?;
+    for index in 0..count {
+        let book = books::book(seed.wrapping_add(index));
+        fs::write(dir.join(format!("{index:04}.book")), book)?;
+    }
+    Ok(())
+}
+
+/// Beside each DIR/NAME.book, DIR/NAME.second with what is printed for it.
+fn print_books(dir: &Path) -> io::Result<()> {
+    let entries: io::Result<Vec<fs::DirEntry>> = fs::read_dir(dir)?.collect();
+    let mut paths: Vec<PathBuf> = entries?.iter().map(fs::DirEntry::path).collect();
+    paths.retain(|path| path.extension().is_some_and(|ending| ending == "book"));
+    paths.sort();
+    for path in paths {
+        let printed = print::printed(&fs::read(&path)?);
+        fs::write(path.with_extension("second"), printed)?;
+    }
+    Ok(())
 }

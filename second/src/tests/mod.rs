@@ -4,6 +4,7 @@
 mod books;
 mod calls;
 mod print;
+mod random;
 mod sweep;
 
 use crate::calls::{answer, fresh, tell};
