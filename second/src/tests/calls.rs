@@ -28,6 +28,7 @@ fn p2_to_p5_a_yes_settles_a_no() {
     assert_eq!(asks(&p2), Ok(Some((0, 1))));
     let p3 = told(&p2, &[(0, 2, NO)]);
     assert_eq!(p3.1, [1, 0, 2, 0, 1, 0, 0, 0, 1]);
+    assert_eq!(open_pairs(&p3).len(), 5);
     let p4 = told(&p3, &[(0, 1, YES)]);
     assert_eq!(p4.1, [1, 1, 2, 0, 1, 2, 0, 0, 1]);
     assert_eq!(open_pairs(&p4), [(1, 0), (2, 0), (2, 1)]);
