@@ -67,10 +67,25 @@ impl<W: Write> Sweep<W> {
             self.fresh(given)?;
         }
         let calls = 4 + self.draw.index(self.n * self.n + 1);
-        for _ in 0..calls {
-            self.call()?;
+        self.calls(calls)?;
+        self.settle_all()?;
+        let calls = 4 + self.draw.index(5);
+        self.calls(calls)
+    }
+
+    fn calls(&mut self, count: usize) -> io::Result<()> {
+        (0..count).try_for_each(|_| self.call())
+    }
+
+    /// "While it asks, `answer` is called without trouble on the pair asked,
+    /// with a verdict drawn, and then `next` again."
+    fn settle_all(&mut self) -> io::Result<()> {
+        loop {
+            let given = self.no_trouble();
+            if !self.next(given)? {
+                return Ok(());
+            }
         }
-        Ok(())
     }
 
     pub fn flush(&mut self) -> io::Result<()> {
@@ -83,7 +98,7 @@ impl<W: Write> Sweep<W> {
         match self.draw.index(16) {
             0..=4 => self.tell(given),
             5..=8 => self.drawn_answer(given),
-            9 | 10 => self.next(given),
+            9 | 10 => self.next(given).map(|_| ()),
             11 => self.hierarchy(given),
             12 | 13 => self.ladder(given),
             14 => self.write(given),
@@ -170,8 +185,8 @@ impl<W: Write> Sweep<W> {
     }
 
     /// "`next`, and then, if it asks and only then, `answer` without trouble
-    /// on the pair asked with a verdict drawn."
-    fn next(&mut self, given: Given) -> io::Result<()> {
+    /// on the pair asked with a verdict drawn." Gives whether it asks.
+    fn next(&mut self, given: Given) -> io::Result<bool> {
         let table = &self.table[..given.lent];
         let result = calls::next(given.session, table);
         self.lines.question(result, digest(table))?;
@@ -180,8 +195,9 @@ impl<W: Write> Sweep<W> {
             let yes = self.verdict();
             let given = self.no_trouble();
             self.answer(given, a as u64, b as u64, yes)?;
+            return Ok(true);
         }
-        Ok(())
+        Ok(false)
     }
 
     fn hierarchy(&mut self, given: Given) -> io::Result<()> {
@@ -274,9 +290,9 @@ impl<W: Write> Sweep<W> {
     }
 }
 
-/// "Input": the seed and the count of rounds. "Any bytes that are no digits
-/// end a number; a number that is missing is 0, and each is taken modulo
-/// 1,000,000,007 as its digits are read."
+/// "Input": the seed and the count of rounds. "Each is a run of digits,
+/// whatever bytes stand between; a number that is missing is 0, and each is
+/// taken modulo 1,000,000,007 as its digits are read."
 pub fn seed_and_rounds(input: &[u8]) -> (u64, u64) {
     let mut numbers = input
         .split(|byte| !byte.is_ascii_digit())
