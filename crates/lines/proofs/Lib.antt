@@ -1,3 +1,5 @@
 pub mod Putting
 pub mod LineByLine
 pub mod Saying
+pub mod Only
+pub mod Decimals

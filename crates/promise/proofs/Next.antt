@@ -38,7 +38,7 @@ in-order a b c d = rows (decLt a c) (decLt c a) (decLt b d) (decLt d b)
     rows (no x) (no y) (no z) (yes w) = inr (inl (inr (omega arith)))
     rows (no x) (no y) (no z) (no w) = inr (inr (omega arith))
 
-first-open-unique :
+pub first-open-unique :
     {n : ℕ} {t : List ℕ} {a b c d : ℕ} → FirstOpen n t a b → FirstOpen n t c d → (a ≡ c) × (b ≡ d)
 first-open-unique {n} {t} {a} {b} {c} {d} p q = go (in-order a b c d)
   where
