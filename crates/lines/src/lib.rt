@@ -8,6 +8,7 @@ use listing::put_steps;
 use promise::Question;
 use promise::Reply;
 use promise::Session;
+use promise::TOO_LONG;
 use promise::Wrote;
 use session::next;
 use table::count_open;
@@ -25,15 +26,12 @@ ghost use Rattle.lines.specs.Put.{Put, QuestionPut, SettledPut, Settled,
 // The most bytes that the printing program reads.
 pub const MOST_INPUT: usize = 32768;
 
-// The refusal of a longer input.
-pub const TOO_LONG: usize = 15;
-
 // The line of an input that is too long. Gives the number of its bytes.
 pub fn report_too_long(text: &mut [u8]) -> usize
     requires { ⌜ 14 ≤ length (now text) ⌝ }
     ensures { λ r. ⌜ Put (refusalLine 15 32768) 0 (now (text .entry)) r (now (text .exit)) ⌝ }
 {
-    put_line(text, 0, b'R', TOO_LONG, MOST_INPUT)
+    put_line(text, 0, b'R', TOO_LONG as usize, MOST_INPUT)
 }
 
 // The next question, where a pair is open.

@@ -61,6 +61,8 @@ pub const BAD_LENGTH: u8 = 13;
 
 pub const BAD_VERDICT: u8 = 14;
 
+pub const TOO_LONG: u8 = 15;
+
 // The tags of a book's fields.
 pub const CLASS_COUNT: u8 = 1;
 
