@@ -19,8 +19,8 @@ use Rattle.promise.specs.Write.{field, Marked, BookOf, writeRefusals, BookWritt
 use Rattle.promise.proofs.Standing.{Stands, standing-refused, first-stands}
 use Rattle.promise.proofs.Buffers.{over-more, writes-refused}
 use Rattle.promise.proofs.Write.{Off, off?, book-length, book-longest}
-use Rattle.table.specs.Shape.{Shape}
-use Rattle.table.proofs.Index.{square}
+use Rattle.marks.specs.Shape.{Shape}
+use Rattle.marks.proofs.Shape.{square}
 use Rattle.book.specs.Fields.{Placed, PairsNoted, FieldFits, FieldPlaced, BookFits, BookPlaced, BookLeft}
 use Rattle.book.proofs.Placing.{part, replaced, part-length, part-placed, placed-before, placed-behind}
 

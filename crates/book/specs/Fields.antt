@@ -9,8 +9,8 @@ use Rattle.promise.specs.declared.Wrote.{Wrote}
 use Rattle.promise.specs.Refusals.{noRoom}
 use Rattle.promise.specs.Buffers.{over, TooShort, Writes}
 use Rattle.promise.specs.Write.{field, Marked, BookOf}
-use Rattle.table.specs.Shape.{Shape}
-use Rattle.table.specs.Noted.{Noted}
+use Rattle.marks.specs.Shape.{Shape}
+use Rattle.marks.specs.Noted.{Noted}
 
 -- the bytes w stand from index at on, and no other byte is changed
 pub record Placed (w : List ℕ) (at : ℕ) (out out′ : List ℕ) : Type 0 where

@@ -1,21 +1,21 @@
 // The fact book of a table.
+use marks::NO;
+use marks::YES;
+use marks::is_marked;
+use marks::put_pair;
 use promise::CLASS_COUNT;
 use promise::NO_FACTS;
 use promise::NO_ROOM;
 use promise::Session;
 use promise::Wrote;
 use promise::YES_FACTS;
-use table::NO;
-use table::YES;
-use table::is_marked;
-use table::put_pair;
-use table::refused;
-use table::standing;
+use standing::refused;
+use standing::standing;
 ghost use mathlib.Core.List.{[], _∷_};
 ghost use Prim.Native.Nat.{_+_, _/_, _%_, _<_, _≤_};
 ghost use lib.ListN.{length};
 ghost use Rattle.promise.specs.Write.{BookWritten};
-ghost use Rattle.table.specs.Shape.{Shape};
+ghost use Rattle.marks.specs.Shape.{Shape};
 ghost use Rattle.book.specs.Fields.{Placed, PairsNoted, FieldFits, FieldPlaced, BookFits, BookPlaced, BookLeft};
 
 // Counts the pairs off the diagonal that have a mark. Each is written, two bytes, in row order, if it fits: a buffer with room for all gets

@@ -13,8 +13,8 @@ use Rattle.promise.specs.Refusals.{noRoom}
 use Rattle.promise.specs.Buffers.{numberOf, placeOf, over, TooShort, Writes}
 use Rattle.promise.specs.Hierarchy.{Under, HeadOf, Head, HeadsOf, StepsOf, StepBytes, HierarchyIn}
 use Rattle.promise.specs.Ladder.{Ladder, LadderOf, Above, Number}
-use Rattle.table.specs.Shape.{Shape}
-use Rattle.table.specs.Noted.{Noted}
+use Rattle.marks.specs.Shape.{Shape}
+use Rattle.marks.specs.Noted.{Noted}
 
 -- at most 128 classes, room for their marks, and the marks sound
 pub record Ordered (n : ℕ) (t : List ℕ) : Type 0 where

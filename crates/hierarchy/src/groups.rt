@@ -2,14 +2,14 @@
 use crate::heads::find_heads;
 use crate::heads::write_heads;
 use crate::steps::list_steps;
+use marks::count_open;
 use promise::MOST_CLASSES;
 use promise::NO_ROOM;
 use promise::STILL_OPEN;
 use promise::Session;
 use promise::Wrote;
-use table::count_open;
-use table::refused;
-use table::standing;
+use standing::refused;
+use standing::standing;
 ghost use Rattle.promise.specs.Hierarchy.{HierarchyWritten};
 ghost use Rattle.hierarchy.specs.Found.{Ordered, HierarchyLeft};
 

@@ -1,5 +1,5 @@
 // The heads of the classes.
-use table::under;
+use marks::under;
 ghost use mathlib.Core.Path.{_≡_};
 ghost use mathlib.Core.Logic.{_↔_};
 ghost use mathlib.Core.Bool.{true};
@@ -7,7 +7,7 @@ ghost use Prim.Native.Nat.{_<_, _≤_};
 ghost use lib.ListN.{length, getD, take};
 ghost use Rattle.promise.specs.Buffers.{over};
 ghost use Rattle.promise.specs.Hierarchy.{Equal, HeadOf};
-ghost use Rattle.table.specs.Shape.{Shape};
+ghost use Rattle.marks.specs.Shape.{Shape};
 ghost use Rattle.hierarchy.specs.Found.{Ordered, Found};
 
 // Whether a and b are under each other.

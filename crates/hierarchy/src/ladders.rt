@@ -1,6 +1,8 @@
 // Ladders.
 use crate::heads::find_heads;
 use crate::rungs::climb;
+use marks::count_open;
+use marks::under;
 use promise::MOST_CLASSES;
 use promise::NO_LADDER;
 use promise::NO_ROOM;
@@ -8,10 +10,8 @@ use promise::NO_SUCH_CLASS;
 use promise::STILL_OPEN;
 use promise::Session;
 use promise::Wrote;
-use table::count_open;
-use table::refused;
-use table::standing;
-use table::under;
+use standing::refused;
+use standing::standing;
 ghost use Rattle.promise.specs.Ladder.{LadderWritten};
 ghost use Rattle.hierarchy.specs.Found.{HasLadder, LadderLeft};
 

@@ -1,6 +1,6 @@
 // The rungs of a ladder.
 use crate::steps::is_direct;
-use table::under;
+use marks::under;
 ghost use mathlib.Core.Path.{_≡_};
 ghost use mathlib.Core.Logic.{_↔_};
 ghost use mathlib.Core.Bool.{true};

@@ -1,7 +1,7 @@
 // The direct steps.
 use crate::heads::is_head;
-use table::put_pair;
-use table::under;
+use marks::put_pair;
+use marks::under;
 ghost use mathlib.Core.Path.{_≡_};
 ghost use mathlib.Core.Logic.{_↔_};
 ghost use mathlib.Core.Bool.{true};

@@ -15,7 +15,7 @@ use Rattle.promise.specs.Tell.{Kind, adds, tellRefusals, Took}
 use Rattle.promise.proofs.Standing.{Stands, first-stands}
 use Rattle.promise.proofs.Replies.{replies-refused}
 use Rattle.promise.proofs.Tell.{agreeing-took}
-use Rattle.table.specs.Shape.{Takes, TakenIn}
+use Rattle.passes.specs.Taken.{Takes, TakenIn}
 use Rattle.session.specs.Facts.{factOn, kindOf, countOf, replyOf, Judged}
 
 module _ (kind : Kind) {s : Session} {t : List ℕ} (st : Stands s t) (lower upper : ℕ) where

@@ -2,16 +2,16 @@
 use crate::replies::accepted;
 use crate::replies::refused;
 use crate::replies::tested;
+use marks::Mark;
 use promise::CONTRADICTED;
 use promise::NO_SUCH_CLASS;
 use promise::Reply;
 use promise::Session;
-use table::Mark;
 ghost use mathlib.Core.List.{[]};
 ghost use Rattle.order.specs.Refusals.{First};
 ghost use Rattle.promise.specs.Refusals.{standing};
 ghost use Rattle.promise.specs.Tell.{Took};
-ghost use Rattle.table.specs.Shape.{Takes, TakenIn};
+ghost use Rattle.passes.specs.Taken.{Takes, TakenIn};
 ghost use Rattle.session.specs.Facts.{factOn, kindOf, Judged};
 
 // A fact on an open pair is taken in.
@@ -20,9 +20,9 @@ fn take_in(n: usize, table: &mut [u8], lower: usize, upper: usize, holds: bool)
     ensures { λ _. ⌜ TakenIn n (factOn lower upper holds) (now (table .entry)) (now (table .exit)) ⌝ }
 {
     if holds {
-        table::take_yes(n, &mut *table, lower, upper);
+        passes::take_yes(n, &mut *table, lower, upper);
     } else {
-        table::take_no(n, &mut *table, lower, upper);
+        passes::take_no(n, &mut *table, lower, upper);
     }
 }
 
@@ -55,7 +55,7 @@ pub fn take_standing(
     if n <= upper {
         return refused(NO_SUCH_CLASS, session);
     }
-    let mark = table::mark_of(n, &*table, lower, upper);
+    let mark = marks::mark_of(n, &*table, lower, upper);
     match mark {
         Mark::Yes => judge(session, holds),
         Mark::No => judge(session, !holds),
@@ -77,7 +77,7 @@ pub fn take(
 ) -> Reply
     ensures { λ r. ⌜ Took (kindOf counts) session (now (table .entry)) (factOn lower upper holds) r (now (table .exit)) ⌝ }
 {
-    let number = table::standing(session, &*table);
+    let number = standing::standing(session, &*table);
     if number != 0 {
         return refused(number, session);
     }

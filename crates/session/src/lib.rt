@@ -32,7 +32,7 @@ pub fn fresh(classes: usize, table: &mut [u8]) -> Reply
     if table.len() < classes * classes {
         return refused(SHORT_TABLE, no_session());
     }
-    table::fresh_marks(classes, &mut *table);
+    marks::fresh_marks(classes, &mut *table);
     accepted(started(classes))
 }
 
@@ -54,12 +54,12 @@ pub fn answer(session: Session, table: &mut [u8], lower: usize, upper: usize, ho
 pub fn next(session: Session, table: &[u8]) -> Question
     ensures { λ q. ⌜ Asked session (now (table .entry)) q ⌝ }
 {
-    let number = table::standing(session, table);
+    let number = standing::standing(session, table);
     if number != 0 {
         return Question::Refused {
             number: number,
             place: 0,
         };
     }
-    table::first_open(session.classes, table)
+    marks::first_open(session.classes, table)
 }

@@ -11,7 +11,7 @@ use Rattle.promise.specs.Refusals.{standing}
 use Rattle.promise.specs.Next.{Says, numberOf, Asked}
 use mathlib.Core.List.{[]}
 use Rattle.promise.proofs.Standing.{stood}
-use Rattle.table.proofs.Index.{shaped}
+use Rattle.marks.proofs.Shape.{shaped}
 use borrow.Author.Needs.{needs}
 use Rattle.session.proofs.next.Statement.{statement}
 use Rattle.session.proofs.next.Tie as tie

@@ -7,7 +7,7 @@ use Prim.Native.Nat.{_-_, _≤_, _<_}
 use native.Mathlib.Omega.{arith}
 use borrow.Author.Needs.{needs}
 use Rattle.promise.proofs.Write.{Off, off?}
-use Rattle.table.proofs.Noting.{SoFar, Along, so-far-none, along-none, few, hit, miss, row-end, all-noted}
+use Rattle.marks.proofs.Noting.{SoFar, Along, so-far-none, along-none, few, hit, miss, row-end, all-noted}
 use Rattle.book.proofs.writing.list_marked.Statement.{statement}
 use Rattle.book.proofs.writing.list_marked.Tie as tie
 

@@ -1,7 +1,7 @@
 -- `book::writing::write` meets its contract.
 -- Assumes nothing.
 use Rattle.promise.proofs.Standing.{Stands, stood}
-use Rattle.table.proofs.Index.{shaped}
+use Rattle.marks.proofs.Shape.{shaped}
 use Rattle.book.proofs.Books.{write-standing, write-left}
 use borrow.Author.Needs.{needs}
 use Rattle.book.proofs.writing.write.Statement.{statement}

@@ -1,7 +1,7 @@
 -- `hierarchy::groups::hierarchy` meets its contract.
 -- Assumes nothing.
 use Rattle.promise.proofs.Standing.{Stands, stood}
-use Rattle.table.proofs.Index.{shaped}
+use Rattle.marks.proofs.Shape.{shaped}
 use Rattle.hierarchy.proofs.Outcomes.{hierarchy-standing, hierarchy-open, hierarchy-left}
 use borrow.Author.Needs.{needs}
 use Rattle.hierarchy.proofs.groups.hierarchy.Statement.{statement}

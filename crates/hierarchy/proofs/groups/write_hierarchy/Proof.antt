@@ -6,7 +6,7 @@ use native.Mathlib.Omega.{arith}
 use borrow.Author.Needs.{needs}
 use Rattle.promise.proofs.Buffers.{lent-none}
 use Rattle.promise.proofs.Triangles.{steps-few}
-use Rattle.table.proofs.Index.{square}
+use Rattle.marks.proofs.Shape.{square}
 use Rattle.hierarchy.proofs.Outcomes.{heads-short, steps-short, hierarchy-done}
 use Rattle.hierarchy.proofs.groups.write_hierarchy.Statement.{statement}
 use Rattle.hierarchy.proofs.groups.write_hierarchy.Tie as tie

@@ -1,7 +1,7 @@
 -- `hierarchy::heads::equal` meets its contract.
 -- Assumes nothing.
 use borrow.Author.Needs.{needs}
-use Rattle.table.proofs.Answers.{granted, denied, never}
+use Rattle.marks.proofs.Answers.{granted, denied, never}
 use Rattle.hierarchy.proofs.heads.equal.Statement.{statement}
 use Rattle.hierarchy.proofs.heads.equal.Tie as tie
 

@@ -5,7 +5,7 @@ use Prim.Native.Nat.{_-_}
 use native.Mathlib.Omega.{arith}
 use borrow.Author.Needs.{needs}
 use Rattle.promise.specs.Hierarchy.{Equal}
-use Rattle.table.proofs.Answers.{refuted}
+use Rattle.marks.proofs.Answers.{refuted}
 use Rattle.hierarchy.proofs.Lowest.{Lowest, lowest-none, lowest-pass, lowest-keep, lowest-take, lowest-least, lowest-has}
 use Rattle.hierarchy.proofs.heads.head_of.Statement.{statement}
 use Rattle.hierarchy.proofs.heads.head_of.Tie as tie

@@ -2,8 +2,8 @@
 -- Assumes nothing.
 use mathlib.Core.Logic.{inl, inr}
 use Rattle.promise.proofs.Standing.{Stands, stood}
-use Rattle.table.proofs.Answers.{granted, denied}
-use Rattle.table.proofs.Index.{shaped}
+use Rattle.marks.proofs.Answers.{granted, denied}
+use Rattle.marks.proofs.Shape.{shaped}
 use Rattle.hierarchy.proofs.Outcomes.{ladder-standing, ladder-no-class, ladder-open, ladder-none, ladder-left}
 use borrow.Author.Needs.{needs}
 use Rattle.hierarchy.proofs.ladders.ladder.Statement.{statement}

@@ -1,7 +1,7 @@
 -- `hierarchy::rungs::leads_on` meets its contract.
 -- Assumes nothing.
 use borrow.Author.Needs.{needs}
-use Rattle.table.proofs.Answers.{granted, denied, never}
+use Rattle.marks.proofs.Answers.{granted, denied, never}
 use Rattle.hierarchy.proofs.rungs.leads_on.Statement.{statement}
 use Rattle.hierarchy.proofs.rungs.leads_on.Tie as tie
 

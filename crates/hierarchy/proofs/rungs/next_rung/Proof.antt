@@ -7,7 +7,7 @@ use native.Mathlib.Omega.{arith}
 use borrow.Author.Needs.{needs}
 use Rattle.promise.specs.Hierarchy.{Under, Direct}
 use Rattle.promise.proofs.Ladder.{rung-there}
-use Rattle.table.proofs.Answers.{refuted}
+use Rattle.marks.proofs.Answers.{refuted}
 use Rattle.hierarchy.proofs.Lowest.{Lowest, lowest-none, lowest-pass, lowest-keep, lowest-take, lowest-least, lowest-has}
 use Rattle.hierarchy.proofs.rungs.next_rung.Statement.{statement}
 use Rattle.hierarchy.proofs.rungs.next_rung.Tie as tie

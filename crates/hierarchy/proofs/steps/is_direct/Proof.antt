@@ -5,8 +5,8 @@ use Prim.Native.Nat.{_-_}
 use native.Mathlib.Omega.{arith}
 use borrow.Author.Needs.{needs}
 use Rattle.promise.specs.Hierarchy.{Third}
-use Rattle.table.proofs.Answers.{granted, refuted, denied, never}
-use Rattle.table.proofs.Upto.{Upto, none, more, all}
+use Rattle.marks.proofs.Answers.{granted, refuted, denied, never}
+use Rattle.marks.proofs.Upto.{Upto, none, more, all}
 use Rattle.hierarchy.proofs.Found.{head-at}
 use Rattle.hierarchy.proofs.steps.is_direct.Statement.{statement}
 use Rattle.hierarchy.proofs.steps.is_direct.Tie as tie

@@ -1,7 +1,7 @@
 -- `hierarchy::steps::is_third` meets its contract: each part of a third head is tested in turn.
 -- Assumes nothing.
 use borrow.Author.Needs.{needs}
-use Rattle.table.proofs.Answers.{granted, denied, never}
+use Rattle.marks.proofs.Answers.{granted, denied, never}
 use Rattle.hierarchy.proofs.Found.{head-at}
 use Rattle.hierarchy.proofs.steps.is_third.Statement.{statement}
 use Rattle.hierarchy.proofs.steps.is_third.Tie as tie

@@ -6,8 +6,8 @@ use native.Mathlib.Omega.{arith}
 use borrow.Author.Needs.{needs}
 use Rattle.promise.specs.Hierarchy.{Direct}
 use Rattle.promise.proofs.Hierarchy.{direct?}
-use Rattle.table.proofs.Answers.{refuted}
-use Rattle.table.proofs.Noting.{SoFar, Along, so-far-none, along-none, few, hit, miss, row-end, all-noted}
+use Rattle.marks.proofs.Answers.{refuted}
+use Rattle.marks.proofs.Noting.{SoFar, Along, so-far-none, along-none, few, hit, miss, row-end, all-noted}
 use Rattle.hierarchy.proofs.steps.list_steps.Statement.{statement}
 use Rattle.hierarchy.proofs.steps.list_steps.Tie as tie
 

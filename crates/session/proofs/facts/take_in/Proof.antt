@@ -2,7 +2,7 @@
 -- Assumes nothing.
 use mathlib.Core.Path.{subst⁻¹}
 use mathlib.Core.Bool.{Bool}
-use Rattle.table.specs.Shape.{TakenIn}
+use Rattle.passes.specs.Taken.{TakenIn}
 use Rattle.session.specs.Facts.{factOn}
 use borrow.Author.Needs.{needs}
 use Rattle.session.proofs.facts.take_in.Statement.{statement}

@@ -4,8 +4,9 @@ use mathlib.Core.Path.{refl, _∙_, ap}
 use mathlib.Core.Logic.{inl, inr}
 use native.Mathlib.Omega.{arith}
 use Rattle.promise.proofs.Standing.{stood}
-use Rattle.table.specs.Shape.{Takes, byteOf}
-use Rattle.table.proofs.Index.{square, shaped}
+use Rattle.marks.specs.Shape.{byteOf}
+use Rattle.marks.proofs.Shape.{square, shaped}
+use Rattle.passes.specs.Taken.{Takes}
 use Rattle.session.proofs.Takes.{no-such-class, judged-yes, judged-no, open-taken}
 use borrow.Author.Needs.{needs}
 use Rattle.session.proofs.facts.take_standing.Statement.{statement}

@@ -1,0 +1,4 @@
+pub mod Answers
+pub mod Shape
+pub mod Upto
+pub mod Noting

@@ -1,0 +1,2 @@
+pub mod Spread
+pub mod Taken
