@@ -1,4 +1,1 @@
-pub mod Lowest
-pub mod Found
-pub mod Climbing
 pub mod Outcomes

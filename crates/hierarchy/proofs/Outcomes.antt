@@ -22,7 +22,9 @@ use Rattle.promise.proofs.Standing.{Stands, standing-refused, first-stands}
 use Rattle.promise.proofs.Buffers.{writes-refused}
 use Rattle.promise.proofs.Hierarchy.{head-head, heads-there, step-bytes-unique}
 use Rattle.promise.proofs.Ladder.{number-most, to-go, through, ladder-unique}
-use Rattle.hierarchy.specs.Found.{Found, StepsNoted, HierarchyLeft, HasLadder, LadderLeft, Reached, Climbed}
+use Rattle.steps.specs.Found.{Found, StepsNoted}
+use Rattle.rungs.specs.Climb.{Reached, Climbed}
+use Rattle.hierarchy.specs.Owed.{HierarchyLeft, HasLadder, LadderLeft}
 
 -- the first n bytes found are the heads
 pub heads-of : {n : ℕ} {t found : List ℕ} → Found n t found → HeadsOf n t (take n found)

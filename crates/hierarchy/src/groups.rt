@@ -1,7 +1,4 @@
 // Groups and direct steps.
-use crate::heads::find_heads;
-use crate::heads::write_heads;
-use crate::steps::list_steps;
 use marks::count_open;
 use promise::MOST_CLASSES;
 use promise::NO_ROOM;
@@ -10,8 +7,12 @@ use promise::Session;
 use promise::Wrote;
 use standing::refused;
 use standing::standing;
+use steps::find_heads;
+use steps::list_steps;
+use steps::write_heads;
 ghost use Rattle.promise.specs.Hierarchy.{HierarchyWritten};
-ghost use Rattle.hierarchy.specs.Found.{Ordered, HierarchyLeft};
+ghost use Rattle.steps.specs.Found.{Ordered};
+ghost use Rattle.hierarchy.specs.Owed.{HierarchyLeft};
 
 // The heads and the direct steps, where only 8 may still be due. The steps are counted before any byte is written, over an empty part of
 // their buffer.

@@ -1,10 +1,7 @@
 // The calls hierarchy and ladder. Neither has a requires: any class count, tally, table, class numbers and buffers get an answer or a
 // refusal.
 mod groups;
-mod heads;
 mod ladders;
-mod rungs;
-mod steps;
 
 pub use groups::hierarchy;
 pub use ladders::ladder;

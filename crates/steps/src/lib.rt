@@ -1,0 +1,8 @@
+// The heads of the classes and the direct steps between them.
+mod direct;
+mod heads;
+
+pub use direct::is_direct;
+pub use direct::list_steps;
+pub use heads::find_heads;
+pub use heads::write_heads;
