@@ -24,7 +24,7 @@ use Rattle.promise.specs.Hierarchy.{HeadsOf, StepsOf, hierarchyRefusals, Hierar
 use Rattle.promise.proofs.Standing.{Stands, standing-passed, stands-first}
 use Rattle.promise.proofs.Next.{done-exactly}
 use Rattle.promise.proofs.Triangles.{steps-few, hierarchy-room}
-use Rattle.table.specs.Shape.{Shape}
+use Rattle.marks.specs.Shape.{Shape}
 use Rattle.lines.specs.Lines.{labelled, countsLine, refusalLine, Shows, capital-N, capital-T, capital-O, space, line-feed, classLines, stepLines}
 use Rattle.lines.specs.Put.{Put, pairsIn, QuestionPut, Settled, SettledPut, Reportable, Reported}
 use Rattle.lines.proofs.Putting.{put-then, decimal-short}
