@@ -17,7 +17,7 @@ use Rattle.promise.specs.Read.{BookRead}
 use Rattle.promise.proofs.Standing.{Stands, standing-passed, first-stands}
 use Rattle.promise.proofs.Runs.{fresh-run-stands}
 use Rattle.promise.proofs.Read.{ReadAs, read-run}
-use Rattle.marks.proofs.Index.{square}
+use Rattle.marks.proofs.Shape.{square}
 use Rattle.lines.specs.Lines.{marksOf}
 
 -- the class count is at most 128
