@@ -25,7 +25,7 @@ enum {
 static const double LIMIT = 1.15;
 
 // A batch of runs takes about this long.
-static const double BATCH_SECONDS = 0.0005;
+static const double BATCH_SECONDS = 0.001;
 
 enum kind { RANDOM, TREE, CHAIN, KINDS };
 
@@ -382,16 +382,24 @@ struct times {
     double library, plain;
 };
 
+// How many runs make a batch.
+static size_t batch(const struct program *p, runner run, const struct input *in)
+{
+    size_t runs = 1;
+    while (seconds(p, run, in, runs) < BATCH_SECONDS) {
+        runs *= 2;
+    }
+    return runs;
+}
+
 // Lowers the times where a batch was faster. The batches of the two take turns, so that other load falls on both alike.
 static void measure(runner run, const struct input *in, struct times *times)
 {
-    size_t runs = 1;
-    while (seconds(&LIBRARY, run, in, runs) < BATCH_SECONDS) {
-        runs *= 2;
-    }
+    size_t library_runs = batch(&LIBRARY, run, in);
+    size_t plain_runs = batch(&PLAIN, run, in);
     for (size_t i = 0; i < BATCHES; i++) {
-        times->library = least(times->library, seconds(&LIBRARY, run, in, runs) / (double)runs);
-        times->plain = least(times->plain, seconds(&PLAIN, run, in, runs) / (double)runs);
+        times->library = least(times->library, seconds(&LIBRARY, run, in, library_runs) / (double)library_runs);
+        times->plain = least(times->plain, seconds(&PLAIN, run, in, plain_runs) / (double)plain_runs);
     }
 }
 
