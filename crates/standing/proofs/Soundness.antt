@@ -1,12 +1,16 @@
--- What the soundness test looks at is soundness: small marks, a yes diagonal, and three lines carried over each yes pair.
+-- What the soundness test looks at is soundness: small marks, a yes diagonal, and for each pair the rows of its two classes.
 -- Assumes nothing.
-use mathlib.Core.Path.{_≡_}
+use mathlib.Core.Path.{_≡_, refl, ap}
+use mathlib.Core.Logic.{_↔_, _≢_}
+use mathlib.Core.Bool.{Bool, true}
 use mathlib.Core.List.{List}
 use Prim.Native.Nat.{ℕ, _+_, _*_, _/_, _%_, _<_, _≤_}
+use native.Mathlib.Omega.{arith}
 use lib.ListN.{getD}
 use Rattle.order.specs.Tables.{mark, Sound}
 use Rattle.order.proofs.Bytes.{pair-below, pair-at}
-use Rattle.standing.specs.Soundness.{SmallMarks, DiagonalYes, Carried}
+use Rattle.marks.specs.Shape.{IndexOf}
+use Rattle.standing.specs.Soundness.{SmallMarks, DiagonalYes, RowsAgree, RowAllows, PairStands}
 
 module _ {n : ℕ} {t : List ℕ} where
   pub small-of : Sound n t → SmallMarks n t
@@ -19,25 +23,64 @@ module _ {n : ℕ} {t : List ℕ} where
             rw p.3 at m;
       }
 
-  -- what is asked of a yes pair follows from soundness
-  pub carried-of : Sound n t → (a b : ℕ) → a < n → b < n → mark n t a b ≡ 1 → Carried n t a b
-  carried-of s a b ha hb e =
+  -- what is asked of a pair follows from soundness
+  pub pair-of : Sound n t → (a b : ℕ) → a < n → b < n → PairStands n t a b
+  pair-of s a b ha hb =
       record {
-        yes-up = record { at = λ x hx p. s .transitive a b x ha hb hx e p };
-        no-up = record { at = λ x hx p. s .pruned b x a x hb hx ha hx p e (s .diagonal x hx) };
-        no-down = record { at = λ x hx p. s .pruned x a x b hx ha hx hb p (s .diagonal x hx) e };
+        yes-pair = λ e.
+            record {
+              yes-up = λ c hc p. s .transitive a b c ha hb hc e p;
+              no-up = λ c hc p. s .pruned b c a c hb hc ha hc p e (s .diagonal c hc);
+            };
+        open-pair = λ e.
+            record { at = λ c hc p q. omega (arith, e, s .pruned a b a c ha hb ha hc q (s .diagonal a ha) p) };
       }
 
   -- and gives it
-  pub sound-of :
-      SmallMarks n t → DiagonalYes n t
-      → ((a b : ℕ) → a < n → b < n → mark n t a b ≡ 1 → Carried n t a b) → Sound n t
+  pub sound-of : SmallMarks n t → DiagonalYes n t → ((a b : ℕ) → a < n → b < n → PairStands n t a b) → Sound n t
   unfolding mark
-  sound-of small diagonal carried =
+  sound-of small diagonal stands =
       record {
-        small = λ a b ha hb. small .at (a * n + b) (pair-below n a b ha hb);
+        small = small-at;
         diagonal = diagonal .at;
-        transitive = λ a b c ha hb hc p q. carried a b ha hb p .yes-up .at c hc q;
+        transitive = λ a b c ha hb hc p q. stands a b ha hb .yes-pair p .yes-up c hc q;
         pruned = λ a b c d ha hb hc hd p q r.
-            carried b d hb hd r .no-down .at a ha (carried c a hc ha q .no-up .at d hd p);
+            which (small-at a b ha hb)
+            (λ e. omega (arith, stands c a hc ha .yes-pair q .no-up d hd p, stands a b ha hb .yes-pair e .yes-up d hd r))
+            (λ e. stands a b ha hb .open-pair e .at d hd r (stands c a hc ha .yes-pair q .no-up d hd p));
       }
+    where
+      small-at : (a b : ℕ) → a < n → b < n → mark n t a b ≤ 2
+      small-at a b ha hb = small .at (a * n + b) (pair-below n a b ha hb)
+
+      -- a mark that is neither yes nor open is no
+      which : {m : ℕ} → m ≤ 2 → ¬ (m ≡ 1) → ¬ (m ≡ 0) → m ≡ 2
+      which small not-yes not-open = omega arith
+
+-- the bytes from the start of a row on are the marks of that row
+pub row-below : {n a i c : ℕ} → IndexOf n a 0 i → a < n → c < n → i + c < n * n
+row-below {n} {a} {i} {c} h ha hc = omega (arith, h .is, pair-below n a c ha hc)
+
+pub row-reads : (t : List ℕ) (c : ℕ) {n a i : ℕ} → IndexOf n a 0 i → getD t (i + c) 0 ≡ mark n t a c
+unfolding mark
+row-reads t c {n} {a} {i} h =
+    let here : i + c ≡ a * n + c = omega (arith, h .is) in
+    ap (λ (k : ℕ). getD t k 0) here
+
+module _ {n : ℕ} {t : List ℕ} {a b : ℕ} {r : Bool} where
+  -- the rows decide about a yes pair, and about an open one; of a no pair nothing is asked
+  pub yes-stands : mark n t a b ≡ 1 → (r ≡ true) ↔ RowsAgree n t a b → (r ≡ true) ↔ PairStands n t a b
+  yes-stands is h = (
+    λ e. record { yes-pair = λ _. h .0 e; open-pair = λ z. absurd (omega arith) },
+    λ p. h .1 (p .yes-pair is),
+  )
+
+  pub open-stands : mark n t a b ≡ 0 → (r ≡ true) ↔ RowAllows n t a b → (r ≡ true) ↔ PairStands n t a b
+  open-stands is h = (
+    λ e. record { yes-pair = λ z. absurd (omega arith); open-pair = λ _. h .0 e },
+    λ p. h .1 (p .open-pair is),
+  )
+
+pub no-stands : {n : ℕ} {t : List ℕ} {a b : ℕ} → mark n t a b ≢ 1 → mark n t a b ≢ 0 → (true ≡ true) ↔ PairStands n t a b
+no-stands not-yes not-open =
+    (λ _. record { yes-pair = λ z. absurd (not-yes z); open-pair = λ z. absurd (not-open z) }, λ _. refl)

@@ -1,18 +1,15 @@
-// Whether a table is sound.
-use marks::Line;
+// Whether a table is sound. Each pair is looked at with the rows of its two classes, a whole row at a time.
 use marks::NO;
+use marks::OPEN;
 use marks::YES;
-use marks::column;
 use marks::index;
-use marks::on;
-use marks::row;
 ghost use mathlib.Core.Path.{_≡_};
 ghost use mathlib.Core.Logic.{_↔_};
 ghost use mathlib.Core.Bool.{true};
 ghost use Prim.Native.Nat.{_<_};
 ghost use Rattle.order.specs.Tables.{Sound};
 ghost use Rattle.marks.specs.Shape.{Shape};
-ghost use Rattle.standing.specs.Soundness.{SmallMarks, DiagonalYes, Covers, Carried};
+ghost use Rattle.standing.specs.Soundness.{against, barred, SmallMarks, DiagonalYes, RowsAgree, RowAllows, PairStands};
 
 // Whether every mark is 0, 1 or 2.
 fn marks_small(n: usize, table: &[u8]) -> bool
@@ -20,12 +17,11 @@ fn marks_small(n: usize, table: &[u8]) -> bool
     ensures { λ r. ⌜ (r ≡ true) ↔ SmallMarks n (now (table .entry)) ⌝ }
 {
     let pairs = n * n;
+    let mut wrong = false;
     for i in 0..pairs {
-        if NO < table[i] {
-            return false;
-        }
+        wrong = wrong | (NO < table[i]);
     }
-    true
+    !wrong
 }
 
 // Whether the diagonal is yes.
@@ -42,37 +38,63 @@ fn diagonal_yes(n: usize, table: &[u8]) -> bool
     true
 }
 
-// Whether every class on the inner line is on the outer one.
-fn covers(n: usize, table: &[u8], outer: Line, inner: Line) -> bool
-    requires { ⌜ (Shape n (now table)) × (outer .class < n) × (inner .class < n) ⌝ }
-    ensures { λ r. ⌜ (r ≡ true) ↔ Covers n (now (table .entry)) outer inner ⌝ }
+// Whether what a and b are marked with at one class speaks against a yes on (a, b).
+fn is_against(of_a: u8, of_b: u8) -> bool
+    ensures { λ r. ⌜ r ≡ against «of_a» «of_b» ⌝ }
 {
-    for z in 0..n {
-        let inside = on(n, table, inner, z);
-        if inside {
-            let outside = on(n, table, outer, z);
-            if !outside {
-                return false;
-            }
-        }
-    }
-    true
+    ((of_b == YES) & (of_a != YES)) | ((of_a == NO) & (of_b != NO))
 }
 
-// Whether what soundness asks of the yes pair (a, b) holds.
-fn carried(n: usize, table: &[u8], a: usize, b: usize) -> bool
-    requires { ⌜ (Shape n (now table)) × (a < n) × (b < n) ⌝ }
-    ensures { λ r. ⌜ (r ≡ true) ↔ Carried n (now (table .entry)) a b ⌝ }
+// Whether it makes (a, b) a no.
+fn is_barred(of_a: u8, of_b: u8) -> bool
+    ensures { λ r. ⌜ r ≡ barred «of_a» «of_b» ⌝ }
 {
-    let yes_up = covers(n, table, row(a, YES), row(b, YES));
-    if !yes_up {
-        return false;
+    (of_b == YES) & (of_a == NO)
+}
+
+// Whether the rows of a yes pair agree: a is under all that b is under, and b is not under what a is not under.
+fn rows_agree(n: usize, table: &[u8], a: usize, b: usize) -> bool
+    requires { ⌜ (Shape n (now table)) × (a < n) × (b < n) ⌝ }
+    ensures { λ r. ⌜ (r ≡ true) ↔ RowsAgree n (now (table .entry)) a b ⌝ }
+{
+    let row_a = index(n, a, 0);
+    let row_b = index(n, b, 0);
+    let mut wrong = false;
+    for c in 0..n {
+        let here = is_against(table[row_a + c], table[row_b + c]);
+        wrong = wrong | here;
     }
-    let no_up = covers(n, table, row(b, NO), row(a, NO));
-    if !no_up {
-        return false;
+    !wrong
+}
+
+// Whether an open pair may be open: b is under no class that a is not under.
+fn row_allows(n: usize, table: &[u8], a: usize, b: usize) -> bool
+    requires { ⌜ (Shape n (now table)) × (a < n) × (b < n) ⌝ }
+    ensures { λ r. ⌜ (r ≡ true) ↔ RowAllows n (now (table .entry)) a b ⌝ }
+{
+    let row_a = index(n, a, 0);
+    let row_b = index(n, b, 0);
+    let mut wrong = false;
+    for c in 0..n {
+        let here = is_barred(table[row_a + c], table[row_b + c]);
+        wrong = wrong | here;
     }
-    covers(n, table, column(a, NO), column(b, NO))
+    !wrong
+}
+
+// Whether what soundness asks of the pair (a, b) holds.
+fn pair_stands(n: usize, table: &[u8], a: usize, b: usize) -> bool
+    requires { ⌜ (Shape n (now table)) × (a < n) × (b < n) ⌝ }
+    ensures { λ r. ⌜ (r ≡ true) ↔ PairStands n (now (table .entry)) a b ⌝ }
+{
+    let i = index(n, a, b);
+    if table[i] == YES {
+        return rows_agree(n, table, a, b);
+    }
+    if table[i] == OPEN {
+        return row_allows(n, table, a, b);
+    }
+    true
 }
 
 // Whether the table is sound.
@@ -90,12 +112,9 @@ pub fn is_sound(n: usize, table: &[u8]) -> bool
     }
     for a in 0..n {
         for b in 0..n {
-            let i = index(n, a, b);
-            if table[i] == YES {
-                let kept = carried(n, table, a, b);
-                if !kept {
-                    return false;
-                }
+            let stands = pair_stands(n, table, a, b);
+            if !stands {
+                return false;
             }
         }
     }

@@ -1,35 +1,25 @@
--- `standing::sound::is_sound` meets its contract: every yes pair passed has what soundness asks of it.
+-- `standing::sound::is_sound` meets its contract: every pair passed has what soundness asks of it.
 -- Assumes nothing.
-use mathlib.Core.Path.{_≡_, refl, sym, _∙_}
-use mathlib.Core.Logic.{⊎-elim}
+use mathlib.Core.Path.{refl}
 use mathlib.Core.List.{List}
 use Prim.Native.Nat.{ℕ, _<_, _-_}
 use native.Mathlib.Omega.{arith}
 use borrow.Author.Needs.{needs}
-use Rattle.order.specs.Tables.{mark}
-use Rattle.standing.specs.Soundness.{Carried}
+use Rattle.standing.specs.Soundness.{PairStands}
 use Rattle.marks.proofs.Answers.{granted, denied, never}
-use Rattle.marks.proofs.Shape.{reads}
-use Rattle.standing.proofs.Soundness.{small-of, carried-of, sound-of}
 use Rattle.marks.proofs.Upto.{Upto, none, more, all}
+use Rattle.standing.proofs.Soundness.{small-of, pair-of, sound-of}
 use Rattle.standing.proofs.sound.is_sound.Statement.{statement}
 use Rattle.standing.proofs.sound.is_sound.Tie as tie
 
--- (a, b) has what is asked of it, and so has every pair of the row of a
-abbrev Asked : ℕ → List ℕ → ℕ → ℕ → Type 0
-Asked n t a b = mark n t a b ≡ 1 → Carried n t a b
-
-abbrev RowAsked : ℕ → List ℕ → ℕ → Type 0
-RowAsked n t a = (b : ℕ) → b < n → Asked n t a b
-
 abbrev Inv-loop2 : tie.InvT-loop2
-Inv-loop2 n table small diagonal a b₀ b = Upto n (Asked n table a) b
+Inv-loop2 n table small diagonal a b₀ b = Upto n (PairStands n table a) b
 
 abbrev μ-loop2 : tie.MeasureT-loop2
 μ-loop2 n table small diagonal a b₀ b = n - b
 
 abbrev Inv-loop : tie.InvT-loop
-Inv-loop n table small diagonal a₀ a = Upto n (RowAsked n table) a
+Inv-loop n table small diagonal a₀ a = Upto n (λ k. (b : ℕ) → b < n → PairStands n table k b) a
 
 abbrev μ-loop : tie.MeasureT-loop
 μ-loop n table small diagonal a₀ a = n - a
@@ -52,19 +42,11 @@ loop-holds c = none
 loop2-holds : tie.Need-loop2-holds Inv-loop2 μ-loop2 Inv-loop μ-loop
 loop2-holds c = none
 
-index-requires : tie.Need-index-requires Inv-loop2 μ-loop2 Inv-loop μ-loop
-index-requires c κs = search needs
-
-shared-slice-read-if3 : tie.Need-shared-slice-read-if3 Inv-loop2 μ-loop2 Inv-loop μ-loop
-shared-slice-read-if3 c = omega arith
-
-carried-requires : tie.Need-carried-requires Inv-loop2 μ-loop2 Inv-loop μ-loop
-carried-requires c κs = search needs
+pair-stands-requires : tie.Need-pair-stands-requires Inv-loop2 μ-loop2 Inv-loop μ-loop
+pair-stands-requires c κs = search needs
 
 returns-3 : tie.Need-returns-3 Inv-loop2 μ-loop2 Inv-loop μ-loop
-returns-3 c =
-    let yes-pair = reads _ (c .before .before .before .before .index .ensures) ∙ c .before .before .if3 .taken in
-    never (λ h. denied (c .if4 .taken) (c .before .carried .ensures) (carried-of h _ _ (omega arith) (omega arith) yes-pair))
+returns-3 c = never (λ h. denied (c .if3 .taken) (c .before .pair-stands .ensures) (pair-of h _ _ (omega arith) (omega arith)))
 
 add-b : tie.Need-add-b Inv-loop2 μ-loop2 Inv-loop μ-loop
 add-b c = omega arith
@@ -73,11 +55,7 @@ loop2-less : tie.Need-loop2-less Inv-loop2 μ-loop2 Inv-loop μ-loop
 loop2-less c = omega arith
 
 loop2-again : tie.Need-loop2-again Inv-loop2 μ-loop2 Inv-loop μ-loop
-loop2-again c =
-    let l = c .before .before .before .before in
-    let byte = reads (l .before .before .before .before .before .before .before .before .args .table .now) (c .before .before .index .ensures) in
-    more (omega arith) (l .loop2 .inv)
-    (⊎-elim (λ w _. granted (w .2 .left) (w .1 .ensures)) (λ w e. absurd (w .left (sym byte ∙ e))) (c .if3 .came))
+loop2-again c = more (omega arith) (c .before .before .before .loop2 .inv) (granted (c .if3 .left) (c .before .pair-stands .ensures))
 
 add-a : tie.Need-add-a Inv-loop2 μ-loop2 Inv-loop μ-loop
 add-a c = omega arith
@@ -113,9 +91,7 @@ is-sound-spec =
     returns-2
     loop-holds
     loop2-holds
-    index-requires
-    shared-slice-read-if3
-    carried-requires
+    pair-stands-requires
     returns-3
     add-b
     loop2-less
