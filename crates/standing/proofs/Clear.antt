@@ -8,7 +8,7 @@ use native.Mathlib.Omega.{arith}
 use borrow.Author.Count.{below-more}
 use borrow.Author.Tests.{not-true}
 use lib.Dec.{T, eqb, eqb→eq, eqb-refl, ltb, ltb→lt, nltb→le}
-use Rattle.standing.specs.Soundness.{against, barred}
+use Rattle.standing.specs.Soundness.{Asks, against}
 
 pub record Clear (n : ℕ) (P : ℕ → Type 0) (wrong : Bool) (k : ℕ) : Type 0 where
   pub within : k ≤ n
@@ -57,14 +57,13 @@ pass-on x y k =
     (λ p. ⊎-elim (λ q. rw (p .0, q .0) (λ _ _. q .1, λ _. refl)) (λ q. rw (p .0, q .0) (λ e. absurd (true≢false e), λ f. absurd (q .1 (f (p .1))))) (compared y k))
     (λ p. rw (p .0) (λ _ z. absurd (p .1 z), λ _. refl)) (compared x k)
 
-pub against-clear : (x y : ℕ) → (against x y ≡ false) ↔ ((y ≡ 1 → x ≡ 1) × (x ≡ 2 → y ≡ 2))
-against-clear x y = (
+-- the test of what is asked at a class
+pub against-clear : (yes-pair : Bool) (x y : ℕ) → (against yes-pair x y ≡ false) ↔ Asks yes-pair x y
+against-clear true x y = (
   λ e. let p = both-down (eqb y 1 && not (eqb x 1)) (eqb x 2 && not (eqb y 2)) .0 e in (pass-on y x 1 .0 (p .0), pass-on x y 2 .0 (p .1)),
   λ h. both-down (eqb y 1 && not (eqb x 1)) (eqb x 2 && not (eqb y 2)) .1 (pass-on y x 1 .1 (h .0), pass-on x y 2 .1 (h .1)),
 )
-
-pub barred-clear : (x y : ℕ) → (barred x y ≡ false) ↔ (y ≡ 1 → x ≢ 2)
-barred-clear x y =
+against-clear false x y =
     ⊎-elim
     (λ p. ⊎-elim (λ q. rw (p .0, q .0) (λ e. absurd (true≢false e), λ f. absurd (f (p .1) (q .1)))) (λ q. rw (p .0, q .0) (λ _ _. q .1, λ _. refl)) (compared x 2))
     (λ p. rw (p .0) (λ _ z. absurd (p .1 z), λ _. refl)) (compared y 1)

@@ -2,7 +2,7 @@
 -- Assumes nothing.
 use mathlib.Core.Path.{_≡_, refl, ap}
 use mathlib.Core.Logic.{_↔_, _≢_}
-use mathlib.Core.Bool.{Bool, true}
+use mathlib.Core.Bool.{Bool, true, false}
 use mathlib.Core.List.{List}
 use Prim.Native.Nat.{ℕ, _+_, _*_, _/_, _%_, _<_, _≤_}
 use native.Mathlib.Omega.{arith}
@@ -10,7 +10,7 @@ use lib.ListN.{getD}
 use Rattle.order.specs.Tables.{mark, Sound}
 use Rattle.order.proofs.Bytes.{pair-below, pair-at}
 use Rattle.marks.specs.Shape.{IndexOf}
-use Rattle.standing.specs.Soundness.{SmallMarks, DiagonalYes, RowsAgree, RowAllows, PairStands}
+use Rattle.standing.specs.Soundness.{SmallMarks, DiagonalYes, RowsAgree, PairStands}
 
 module _ {n : ℕ} {t : List ℕ} where
   pub small-of : Sound n t → SmallMarks n t
@@ -29,8 +29,10 @@ module _ {n : ℕ} {t : List ℕ} where
       record {
         yes-pair = λ e.
             record {
-              yes-up = λ c hc p. s .transitive a b c ha hb hc e p;
-              no-up = λ c hc p. s .pruned b c a c hb hc ha hc p e (s .diagonal c hc);
+              at = λ c hc. (
+                λ p. s .transitive a b c ha hb hc e p,
+                λ p. s .pruned b c a c hb hc ha hc p e (s .diagonal c hc),
+              );
             };
         open-pair = λ e.
             record { at = λ c hc p q. omega (arith, e, s .pruned a b a c ha hb ha hc q (s .diagonal a ha) p) };
@@ -43,11 +45,11 @@ module _ {n : ℕ} {t : List ℕ} where
       record {
         small = small-at;
         diagonal = diagonal .at;
-        transitive = λ a b c ha hb hc p q. stands a b ha hb .yes-pair p .yes-up c hc q;
+        transitive = λ a b c ha hb hc p q. stands a b ha hb .yes-pair p .at c hc .0 q;
         pruned = λ a b c d ha hb hc hd p q r.
             which (small-at a b ha hb)
-            (λ e. omega (arith, stands c a hc ha .yes-pair q .no-up d hd p, stands a b ha hb .yes-pair e .yes-up d hd r))
-            (λ e. stands a b ha hb .open-pair e .at d hd r (stands c a hc ha .yes-pair q .no-up d hd p));
+            (λ e. omega (arith, stands c a hc ha .yes-pair q .at d hd .1 p, stands a b ha hb .yes-pair e .at d hd .0 r))
+            (λ e. stands a b ha hb .open-pair e .at d hd r (stands c a hc ha .yes-pair q .at d hd .1 p));
       }
     where
       small-at : (a b : ℕ) → a < n → b < n → mark n t a b ≤ 2
@@ -69,13 +71,13 @@ row-reads t c {n} {a} {i} h =
 
 module _ {n : ℕ} {t : List ℕ} {a b : ℕ} {r : Bool} where
   -- the rows decide about a yes pair, and about an open one; of a no pair nothing is asked
-  pub yes-stands : mark n t a b ≡ 1 → (r ≡ true) ↔ RowsAgree n t a b → (r ≡ true) ↔ PairStands n t a b
+  pub yes-stands : mark n t a b ≡ 1 → (r ≡ true) ↔ RowsAgree n t true a b → (r ≡ true) ↔ PairStands n t a b
   yes-stands is h = (
     λ e. record { yes-pair = λ _. h .0 e; open-pair = λ z. absurd (omega arith) },
     λ p. h .1 (p .yes-pair is),
   )
 
-  pub open-stands : mark n t a b ≡ 0 → (r ≡ true) ↔ RowAllows n t a b → (r ≡ true) ↔ PairStands n t a b
+  pub open-stands : mark n t a b ≡ 0 → (r ≡ true) ↔ RowsAgree n t false a b → (r ≡ true) ↔ PairStands n t a b
   open-stands is h = (
     λ e. record { yes-pair = λ z. absurd (omega arith); open-pair = λ _. h .0 e },
     λ p. h .1 (p .open-pair is),

@@ -9,7 +9,7 @@ ghost use mathlib.Core.Bool.{true};
 ghost use Prim.Native.Nat.{_<_};
 ghost use Rattle.order.specs.Tables.{Sound};
 ghost use Rattle.marks.specs.Shape.{Shape};
-ghost use Rattle.standing.specs.Soundness.{against, barred, SmallMarks, DiagonalYes, RowsAgree, RowAllows, PairStands};
+ghost use Rattle.standing.specs.Soundness.{against, SmallMarks, DiagonalYes, RowsAgree, PairStands};
 
 // Whether every mark is 0, 1 or 2.
 fn marks_small(n: usize, table: &[u8]) -> bool
@@ -38,45 +38,26 @@ fn diagonal_yes(n: usize, table: &[u8]) -> bool
     true
 }
 
-// Whether what a and b are marked with at one class speaks against a yes on (a, b).
-fn is_against(of_a: u8, of_b: u8) -> bool
-    ensures { λ r. ⌜ r ≡ against «of_a» «of_b» ⌝ }
+// Whether what a and b are marked with at one class speaks against the pair (a, b): against a yes, or against leaving it open.
+fn speaks_against(settled: bool, of_a: u8, of_b: u8) -> bool
+    ensures { λ r. ⌜ r ≡ against settled «of_a» «of_b» ⌝ }
 {
-    ((of_b == YES) & (of_a != YES)) | ((of_a == NO) & (of_b != NO))
-}
-
-// Whether it makes (a, b) a no.
-fn is_barred(of_a: u8, of_b: u8) -> bool
-    ensures { λ r. ⌜ r ≡ barred «of_a» «of_b» ⌝ }
-{
+    if settled {
+        return ((of_b == YES) & (of_a != YES)) | ((of_a == NO) & (of_b != NO));
+    }
     (of_b == YES) & (of_a == NO)
 }
 
-// Whether the rows of a yes pair agree: a is under all that b is under, and b is not under what a is not under.
-fn rows_agree(n: usize, table: &[u8], a: usize, b: usize) -> bool
+// Whether the rows of a and b agree with the pair (a, b), a yes or an open one.
+fn rows_agree(n: usize, table: &[u8], settled: bool, a: usize, b: usize) -> bool
     requires { ⌜ (Shape n (now table)) × (a < n) × (b < n) ⌝ }
-    ensures { λ r. ⌜ (r ≡ true) ↔ RowsAgree n (now (table .entry)) a b ⌝ }
+    ensures { λ r. ⌜ (r ≡ true) ↔ RowsAgree n (now (table .entry)) settled a b ⌝ }
 {
     let row_a = index(n, a, 0);
     let row_b = index(n, b, 0);
     let mut wrong = false;
     for c in 0..n {
-        let here = is_against(table[row_a + c], table[row_b + c]);
-        wrong = wrong | here;
-    }
-    !wrong
-}
-
-// Whether an open pair may be open: b is under no class that a is not under.
-fn row_allows(n: usize, table: &[u8], a: usize, b: usize) -> bool
-    requires { ⌜ (Shape n (now table)) × (a < n) × (b < n) ⌝ }
-    ensures { λ r. ⌜ (r ≡ true) ↔ RowAllows n (now (table .entry)) a b ⌝ }
-{
-    let row_a = index(n, a, 0);
-    let row_b = index(n, b, 0);
-    let mut wrong = false;
-    for c in 0..n {
-        let here = is_barred(table[row_a + c], table[row_b + c]);
+        let here = speaks_against(settled, table[row_a + c], table[row_b + c]);
         wrong = wrong | here;
     }
     !wrong
@@ -89,10 +70,10 @@ fn pair_stands(n: usize, table: &[u8], a: usize, b: usize) -> bool
 {
     let i = index(n, a, b);
     if table[i] == YES {
-        return rows_agree(n, table, a, b);
+        return rows_agree(n, table, true, a, b);
     }
     if table[i] == OPEN {
-        return row_allows(n, table, a, b);
+        return rows_agree(n, table, false, a, b);
     }
     true
 }

@@ -1,4 +1,4 @@
--- `standing::sound::pair_stands` meets its contract: the mark says which rows are asked.
+-- `standing::sound::pair_stands` meets its contract: the mark says what the rows are asked.
 -- Assumes nothing.
 use mathlib.Core.Path.{sym, _∙_}
 use Rattle.marks.proofs.Shape.{reads}
@@ -24,13 +24,13 @@ returns c =
 shared-slice-read-if2 : tie.Need-shared-slice-read-if2
 shared-slice-read-if2 c = search needs
 
-row-allows-requires : tie.Need-row-allows-requires
-row-allows-requires c κs = search needs
+rows-agree-requires-2 : tie.Need-rows-agree-requires-2
+rows-agree-requires-2 c κs = search needs
 
 returns-2 : tie.Need-returns-2
 returns-2 c =
     let at = c .before .before .before .before .before .index .ensures in
-    open-stands (reads (c .before .before .before .before .before .before .before .args .table .now) at ∙ c .before .if2 .taken) (c .row-allows .ensures)
+    open-stands (reads (c .before .before .before .before .before .before .before .args .table .now) at ∙ c .before .if2 .taken) (c .rows-agree2 .ensures)
 
 returns-3 : tie.Need-returns-3
 returns-3 c =
@@ -46,6 +46,6 @@ pair-stands-spec =
     rows-agree-requires
     returns
     shared-slice-read-if2
-    row-allows-requires
+    rows-agree-requires-2
     returns-2
     returns-3)

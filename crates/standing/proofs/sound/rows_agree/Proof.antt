@@ -1,20 +1,20 @@
 -- `standing::sound::rows_agree` meets its contract: no class passed speaks against the pair.
 -- Assumes nothing.
-use mathlib.Core.Path.{_≡_}
 use Prim.Native.Nat.{_-_}
 use native.Mathlib.Omega.{arith}
 use Rattle.order.specs.Tables.{mark}
+use Rattle.standing.specs.Soundness.{Asks}
 use Rattle.standing.proofs.Clear.{Clear, clear-none, clear-more, clear-all, against-clear}
 use Rattle.standing.proofs.Soundness.{row-below, row-reads}
 use Rattle.standing.proofs.sound.rows_agree.Statement.{statement}
 use Rattle.standing.proofs.sound.rows_agree.Tie as tie
 
 abbrev Inv-loop : tie.InvT-loop
-Inv-loop n table a b row-a row-b wrong₀ c₀ wrong c =
-    Clear n (λ k. (mark n table b k ≡ 1 → mark n table a k ≡ 1) × (mark n table a k ≡ 2 → mark n table b k ≡ 2)) wrong c
+Inv-loop n table settled a b row-a row-b wrong₀ c₀ wrong c =
+    Clear n (λ k. Asks settled (mark n table a k) (mark n table b k)) wrong c
 
 abbrev μ-loop : tie.MeasureT-loop
-μ-loop n table a b row-a row-b wrong₀ c₀ wrong c = n - c
+μ-loop n table settled a b row-a row-b wrong₀ c₀ wrong c = n - c
 
 index-requires : tie.Need-index-requires Inv-loop μ-loop
 index-requires c κs = (c .before .pre .0 .few, c .before .pre .1, omega (arith, c .before .pre .1))
@@ -26,24 +26,24 @@ index-requires-2 c κs =
 loop-holds : tie.Need-loop-holds Inv-loop μ-loop
 loop-holds c = clear-none
 
-add-is-against : tie.Need-add-is-against Inv-loop μ-loop
-add-is-against c = omega (arith, row-below (c .before .before .before .index .ensures) (c .before .before .before .before .before .pre .1) (c .loop-test .taken))
+add-speaks-against : tie.Need-add-speaks-against Inv-loop μ-loop
+add-speaks-against c = omega (arith, row-below (c .before .before .before .index .ensures) (c .before .before .before .before .before .pre .1) (c .loop-test .taken))
 
-shared-slice-read-is-against : tie.Need-shared-slice-read-is-against Inv-loop μ-loop
-shared-slice-read-is-against c =
+shared-slice-read-speaks-against : tie.Need-shared-slice-read-speaks-against Inv-loop μ-loop
+shared-slice-read-speaks-against c =
     let s = c .before .before .before .before .before .before in
     omega (arith, row-below (c .before .before .before .before .index .ensures) (s .pre .1) (c .before .loop-test .taken), s .pre .0 .room)
 
-add-is-against-2 : tie.Need-add-is-against-2 Inv-loop μ-loop
-add-is-against-2 c = omega (arith, row-below (c .before .before .before .index2 .ensures) (c .before .before .before .before .before .before .pre .2) (c .before .loop-test .taken))
+add-speaks-against-2 : tie.Need-add-speaks-against-2 Inv-loop μ-loop
+add-speaks-against-2 c = omega (arith, row-below (c .before .before .before .index2 .ensures) (c .before .before .before .before .before .before .pre .2) (c .before .loop-test .taken))
 
-shared-slice-read-is-against-2 : tie.Need-shared-slice-read-is-against-2 Inv-loop μ-loop
-shared-slice-read-is-against-2 c =
+shared-slice-read-speaks-against-2 : tie.Need-shared-slice-read-speaks-against-2 Inv-loop μ-loop
+shared-slice-read-speaks-against-2 c =
     let s = c .before .before .before .before .before .before .before in
     omega (arith, row-below (c .before .before .before .before .index2 .ensures) (s .pre .2) (c .before .before .loop-test .taken), s .pre .0 .room)
 
-is-against-requires : tie.Need-is-against-requires Inv-loop μ-loop
-is-against-requires c κs = tt
+speaks-against-requires : tie.Need-speaks-against-requires Inv-loop μ-loop
+speaks-against-requires c κs = tt
 
 add-c : tie.Need-add-c Inv-loop μ-loop
 add-c c = omega arith
@@ -56,12 +56,12 @@ loop-again c =
     let l = c .before .before .before .before in
     let t = l .before .before .before .before .args .table .now in
     clear-more (omega arith) (l .loop .inv)
-    (rw (c .is-against .ensures, row-reads t (l .loop .c) (l .before .before .index .ensures), row-reads t (l .loop .c) (l .before .index2 .ensures)) (against-clear _ _))
+    (rw (c .speaks-against .ensures, row-reads t (l .loop .c) (l .before .before .index .ensures), row-reads t (l .loop .c) (l .before .index2 .ensures)) (against-clear (l .before .before .before .before .args .settled) _ _))
 
 returns : tie.Need-returns Inv-loop μ-loop
 returns c =
     let q = clear-all (c .loop-test .left) (c .before .loop .inv) in
-    (λ e. record { yes-up = λ k hk. q .0 e k hk .0; no-up = λ k hk. q .0 e k hk .1 }, λ h. q .1 (λ k hk. (h .yes-up k hk, h .no-up k hk)))
+    (λ e. record { at = q .0 e }, λ h. q .1 (h .at))
 
 pub rows-agree-spec : {M : Type 1} → statement M
 rows-agree-spec =
@@ -72,11 +72,11 @@ rows-agree-spec =
     index-requires
     index-requires-2
     loop-holds
-    add-is-against
-    shared-slice-read-is-against
-    add-is-against-2
-    shared-slice-read-is-against-2
-    is-against-requires
+    add-speaks-against
+    shared-slice-read-speaks-against
+    add-speaks-against-2
+    shared-slice-read-speaks-against-2
+    speaks-against-requires
     add-c
     loop-less
     loop-again
