@@ -194,13 +194,13 @@ static void find_longest(struct input *in)
 {
     size_t n = in->session.classes, longest = 0;
     uint8_t rungs[MOST];
-    for (size_t a = 0; a < n; a++) {
-        for (size_t b = 0; b < n; b++) {
-            dawnhangra_count wrote = plain_ladder(in->session, in->settled, in->pairs, a, b, rungs, sizeof rungs);
+    for (size_t i = 0; i < in->pairs; i++) {
+        if (in->settled[i] == DAWNHANGRA_YES) {
+            dawnhangra_count wrote = plain_ladder(in->session, in->settled, in->pairs, i / n, i % n, rungs, sizeof rungs);
             if (wrote.count > longest) {
                 longest = wrote.count;
-                in->lowest = a;
-                in->highest = b;
+                in->lowest = i / n;
+                in->highest = i % n;
             }
         }
     }
@@ -333,7 +333,7 @@ static bool same_count(dawnhangra_count a, dawnhangra_count b)
 }
 
 // Both accept, give the same, and leave the same bytes, also behind those they write.
-static void check(runner run, const struct input *in)
+static void check_run(runner run, const struct input *in)
 {
     static struct outcome library, plain;
     memset(&library, 0xa5, sizeof library);
@@ -355,6 +355,21 @@ static void check(runner run, const struct input *in)
         memcmp(library.out, plain.out, sizeof library.out)) {
         fail("the bytes differ");
     }
+}
+
+// A run leaves only what its last fact gave, so each fact has a run in which it is the only one.
+static void check(runner run, const struct input *in)
+{
+    static struct input one;
+    one = *in;
+    for (size_t i = 0; i < FACTS; i++) {
+        for (size_t j = 0; j < FACTS; j++) {
+            one.open[j] = in->open[i];
+            one.agreeing[j] = in->agreeing[i];
+        }
+        check_run(run, &one);
+    }
+    check_run(run, in);
 }
 
 // Times.
