@@ -5,8 +5,8 @@
 // class count, tally, table, class number, book and length gets an answer or a refusal.
 //
 // A table of n classes is n*n bytes: the mark of (a, b), "a is under b", stands at index a*n + b. Bytes behind them are neither read nor
-// written. Session and table are passed on from call to call untouched. One that was changed in between is refused if no facts give it; if
-// some do, the calls go on from those.
+// written. Session and table are passed on from call to call untouched. A table that was changed in between is refused where no facts give it;
+// where some do, the calls go on from those.
 #ifndef DAWNHANGRA_H
 #define DAWNHANGRA_H
 
