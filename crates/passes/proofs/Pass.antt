@@ -1,164 +1,188 @@
--- A pass over the pairs of two lines, in row order, that stores one value.
+-- A pass over the pairs of two lines, flag by flag and row by row.
 -- Assumes nothing.
-use mathlib.Core.Path.{_≡_, refl, sym, _∙_, subst}
-use mathlib.Core.Logic.{_⊎_, inl, inr, ⊎-elim, _↔_}
+use mathlib.Core.Path.{_≡_, refl, _∙_}
+use mathlib.Core.Logic.{_↔_, _⊎_, inl, inr, ⊎-elim}
 use mathlib.Core.Bool.{Bool, true, false}
 use mathlib.Core.List.{List}
 use Prim.Native.Nat.{ℕ, _+_, _<_, _≤_}
-use native.Mathlib.Decide.{ℕ-discrete, decLt}
+use native.Mathlib.Decide.{ℕ-discrete}
 use native.Mathlib.Omega.{arith}
-use lib.ListN.{set}
-use Rattle.order.specs.Tables.{mark, SameRest}
-use Rattle.order.specs.Pairs.{Before}
-use Rattle.order.proofs.Bytes.{rest-refl}
-use Rattle.marks.specs.declared.Line.{Line}
+use lib.ListN.{length, getD, set, length-set}
+use lib.Seq.{getD-set-same, getD-set-other, set-getD}
+use Rattle.order.specs.Tables.{mark}
+use Rattle.order.proofs.Bytes.{pair-below, rest-refl, rest-trans}
 use Rattle.marks.specs.Shape.{Shape, IndexOf}
-use Rattle.marks.specs.Lines.{crossing, On}
-use Rattle.passes.specs.Spread.{Through, Firm, Ready, Spread}
 use Rattle.marks.proofs.Shape.{stored, rest-store}
+use Rattle.passes.specs.Marked.{Flagged, FlagsOf, Becomes, Marked}
 
--- the pairs before (i, j) are done
-pub record At (n : ℕ) (xs ys : Line) (v i j : ℕ) (t u : List ℕ) : Type 0 where
-  pub rest : SameRest n t u
-  pub hit : (x y : ℕ) → x < n → y < n → Before (x, y) (i, j) → On n t xs x → On n t ys y → mark n u x y ≡ v
-  pub miss :
-      (x y : ℕ) → x < n → y < n → (Before (x, y) (i, j) → On n t xs x → On n t ys y → ⊥)
-      → mark n u x y ≡ mark n t x y
+-- the pairs of a row stand one after the other
+pub along : {n a i : ℕ} (b : ℕ) → a < n → b < n → IndexOf n a 0 i → IndexOf n a b (i + b)
+along {n} {a} {i} b ha hb at =
+    record { is = omega (arith, at .is); below = omega (arith, at .is, pair-below n a b ha hb) }
 
-before? : (x y i j : ℕ) → Dec (Before (x, y) (i, j))
-before? x y i j = go (decLt x i) (ℕ-discrete x i) (decLt y j)
-  where
-    go : Dec (x < i) → Dec (x ≡ i) → Dec (y < j) → Dec (Before (x, y) (i, j))
-    go (yes a) b c = yes (inl a)
-    go (no a) (yes b) (yes c) = yes (inr (b, c))
-    go (no a) (yes b) (no c) = no (⊎-elim a (λ w. c (w .1)))
-    go (no a) (no b) c = no (⊎-elim a (λ w. b (w .0)))
+-- the flags of the classes below k are set as P says
+pub record Gathered (n : ℕ) (P : ℕ → Type 0) (k : ℕ) (flags : List Bool) : Type 0 where
+  pub most : k ≤ n
+  pub size : length flags ≡ 128
+  pub set-so-far : FlagsOf k P flags
 
-pub start : (n : ℕ) (xs ys : Line) (v : ℕ) (t : List ℕ) → At n xs ys v 0 0 t t
-start n xs ys v t =
-    record {
-      rest = rest-refl t;
-      hit = λ x y hx hy b. absurd (⊎-elim (λ l. omega arith) (λ w. omega arith) b);
-      miss = λ x y hx hy p. refl;
-    }
+module _ {n : ℕ} {P : ℕ → Type 0} where
+  pub gather-start : {flags : List Bool} → length flags ≡ 128 → Gathered n P 0 flags
+  gather-start e =
+      record { most = omega arith; size = e; set-so-far = record { at = λ x l. absurd (omega arith) } }
 
-module _ (n : ℕ) (xs ys : Line) (v i j : ℕ) (t u : List ℕ) (h : At n xs ys v i j t u) where
-  -- a mark that the store would not change as to m is as it was as to m
-  mark-steady :
-      (x y m : ℕ) → x < n → y < n → (On n t xs x → On n t ys y → (mark n t x y ≡ m) ↔ (v ≡ m))
-      → (mark n u x y ≡ m) ↔ (mark n t x y ≡ m)
-  mark-steady x y m hx hy f = go (before? x y i j) (ℕ-discrete _ _) (ℕ-discrete _ _)
+  pub gather-next :
+      {k : ℕ} {flags : List Bool} {f : Bool} → n ≤ 128 → k < n → Gathered n P k flags → (f ≡ true) ↔ P k
+      → Gathered n P (k + 1) (set flags k f)
+  gather-next {k} {flags} {f} few l h p =
+      record {
+        most = omega arith;
+        size = length-set flags k f ∙ h .size;
+        set-so-far = record { at = λ x hx. go x hx (ℕ-discrete x k) };
+      }
     where
-      same : (Before (x, y) (i, j) → On n t xs x → On n t ys y → ⊥) → (mark n u x y ≡ m) ↔ (mark n t x y ≡ m)
-      same p = (λ e. sym (h .miss x y hx hy p) ∙ e, λ e. h .miss x y hx hy p ∙ e)
+      go : (x : ℕ) → x < k + 1 → Dec (x ≡ k) → Flagged (set flags k f) x ↔ P x
+      go x hx (yes e) =
+          let room : k < length flags = omega (arith, h .size) in rw (e, getD-set-same flags k f false room) p
+      go x hx (no d) = rw (getD-set-other flags k x f false d) (h .set-so-far .at x (omega arith))
 
+  pub gather-end : {k : ℕ} {flags : List Bool} → n ≤ k → Gathered n P k flags → FlagsOf n P flags
+  gather-end l h = record { at = λ x hx. h .set-so-far .at x (omega arith) }
+
+-- no pair is marked; the same pairs are said otherwise; the pairs of one pass and of the next
+pub marked-none : {n : ℕ} {P : ℕ → ℕ → Type 0} {v : ℕ} {t : List ℕ} → ((x y : ℕ) → ¬ P x y) → Marked n P v t t
+marked-none p = record { each = λ x y hx hy. inr (p x y, refl); rest = rest-refl _ }
+
+module _ {n : ℕ} {P : ℕ → ℕ → Type 0} {v : ℕ} {t u : List ℕ} (h : Marked n P v t u) where
+  pub marked-same :
+      {Q : ℕ → ℕ → Type 0} → ((x y : ℕ) → x < n → y < n → P x y ↔ Q x y) → Marked n Q v t u
+  marked-same e =
+      record {
+        each = λ x y hx hy.
+            ⊎-elim (λ w. inl (e x y hx hy .0 (w .0), w .1)) (λ w. inr (λ q. w .0 (e x y hx hy .1 q), w .1))
+            (h .each x y hx hy);
+        rest = h .rest;
+      }
+
+  pub marked-both :
+      {Q R : ℕ → ℕ → Type 0} {w : List ℕ} → Marked n Q v u w → ((x y : ℕ) → R x y ↔ (P x y ⊎ Q x y))
+      → Marked n R v t w
+  marked-both {Q} {R} {w} k e =
+      record {
+        each = λ x y hx hy. go x y (h .each x y hx hy) (k .each x y hx hy);
+        rest = rest-trans (h .rest) (k .rest);
+      }
+    where
       go :
-          Dec (Before (x, y) (i, j)) → Dec (On n t xs x) → Dec (On n t ys y)
-          → (mark n u x y ≡ m) ↔ (mark n t x y ≡ m)
-      go (yes b) (yes p) (yes q) =
-          let w = h .hit x y hx hy b p q in (λ e. f p q .1 (sym w ∙ e), λ e. w ∙ f p q .0 e)
-      go (yes b) (yes p) (no q) = same (λ b p. q)
-      go (yes b) (no p) q = same (λ b a. absurd (p a))
-      go (no b) p q = same (λ a. absurd (b a))
+          (x y : ℕ) → Becomes (P x y) v (mark n t x y) (mark n u x y)
+          → Becomes (Q x y) v (mark n u x y) (mark n w x y) → Becomes (R x y) v (mark n t x y) (mark n w x y)
+      go x y a (inl q) = inl (e x y .1 (inr (q .0)), q .1)
+      go x y (inl p) (inr q) = inl (e x y .1 (inl (p .0)), q .1 ∙ p .1)
+      go x y (inr p) (inr q) = inr (λ r. ⊎-elim (p .0) (q .0) (e x y .0 r), q .1 ∙ p .1)
 
-  crossing-steady :
-      (r : Bool) (k m z : ℕ) → k < n → z < n
-      → ((x y : ℕ) → x < n → y < n → On n t xs x → On n t ys y → Through r k x y → (mark n t x y ≡ m) ↔ (v ≡ m))
-      → (crossing n u r k z ≡ m) ↔ (crossing n t r k z ≡ m)
-  crossing-steady true k m z hk hz f = mark-steady k z m hk hz (λ p q. f k z hk hz p q refl)
-  crossing-steady false k m z hk hz f = mark-steady z k m hz hk (λ p q. f z k hz hk p q refl)
-
-  -- what stands on a firm line now is what stood there
-  pub steady : (l : Line) → Firm n t xs ys v l → (z : ℕ) → z < n → On n u l z ↔ On n t l z
-  steady l f z hz = crossing-steady (l .row) (l .class) (l .mark) z (f .below) hz (f .firm)
-
-  -- (i, j) is stored
-  store :
-      (k : ℕ) → Shape n u → IndexOf n i j k → j < n → On n t xs i → On n t ys j
-      → At n xs ys v i (j + 1) t (set u k v)
-  store k s at hj p q =
-      record {
-        rest = rest-store n u s i j k v at hj t (h .rest);
-        hit = λ x y hx hy b a c.
-            ⊎-elim (λ w. w .2) (λ w. w .1 ∙ h .hit x y hx hy (earlier x y (w .0) b) a c)
-            (stored n u s i j k v at hj x y hy);
-        miss = λ x y hx hy d.
-            ⊎-elim
-            (λ w.
-            absurd
-            (d (inr (w .0, omega (arith, w .1))) (subst (On n t xs) (sym (w .0)) p) (subst (On n t ys) (sym (w .1)) q)))
-            (λ w. w .1 ∙ h .miss x y hx hy (λ b. d (later x y b)))
-            (stored n u s i j k v at hj x y hy);
-      }
-    where
-      earlier : (x y : ℕ) → (x ≡ i → y ≡ j → ⊥) → Before (x, y) (i, j + 1) → Before (x, y) (i, j)
-      earlier x y ne (inl l) = inl l
-      earlier x y ne (inr z) = inr (z .0, let other : y ≡ j → ⊥ = ne (z .0) in omega (arith, z .1))
-
-      later : (x y : ℕ) → Before (x, y) (i, j) → Before (x, y) (i, j + 1)
-      later x y (inl l) = inl l
-      later x y (inr z) = inr (z .0, omega (arith, z .1))
-
-  -- (i, j) is passed over
-  pass-column : (On n t ys j → ⊥) → At n xs ys v i (j + 1) t u
-  pass-column q =
-      record {
-        rest = h .rest;
-        hit = λ x y hx hy b a c. h .hit x y hx hy (⊎-elim inl (λ z. inr (z .0, go y c (z .1))) b) a c;
-        miss = λ x y hx hy d. h .miss x y hx hy (λ b. d (⊎-elim inl (λ z. inr (z .0, omega (arith, z .1))) b));
-      }
-    where
-      go : (y : ℕ) → On n t ys y → y < j + 1 → y < j
-      go y c l = let ne : y ≡ j → ⊥ = λ e. q (subst (On n t ys) e c) in omega arith
-
-  -- a row is over at its end, or where i isn't on the line
-  pub next-row : (n ≤ j) ⊎ (On n t xs i → ⊥) → At n xs ys v (i + 1) 0 t u
-  next-row o =
-      record {
-        rest = h .rest;
-        hit = λ x y hx hy b a c. h .hit x y hx hy (go x y hy a (low x y b) (ℕ-discrete x i)) a c;
-        miss = λ x y hx hy d.
-            h .miss x y hx hy (λ b. d (inl (⊎-elim (λ l. omega arith) (λ w. omega (arith, w .0)) b)));
-      }
-    where
-      low : (x y : ℕ) → Before (x, y) (i + 1, 0) → x < i + 1
-      low x y b = ⊎-elim (λ l. l) (λ w. absurd (omega (arith, w .1))) b
-
-      go : (x y : ℕ) → y < n → On n t xs x → x < i + 1 → Dec (x ≡ i) → Before (x, y) (i, j)
-      go x y hy a l (yes e) = inr (e, ⊎-elim (λ m. omega arith) (λ p. absurd (p (subst (On n t xs) e a))) o)
-      go x y hy a l (no e) = inl (omega arith)
-
-pub finish : (n : ℕ) (xs ys : Line) (v i : ℕ) (t u : List ℕ) → n ≤ i → At n xs ys v i 0 t u → Spread n xs ys v t u
-finish n xs ys v i t u l h =
+-- one pair is stored
+pub marked-store :
+    {n : ℕ} {t : List ℕ} {a b i v : ℕ} → Shape n t → IndexOf n a b i → b < n
+    → Marked n (λ x y. (x ≡ a) × (y ≡ b)) v t (set t i v)
+marked-store {n} {t} {a} {b} {i} {v} s at hb =
     record {
-      rest = h .rest;
-      hit = λ x y hx hy. h .hit x y hx hy (inl (omega arith));
-      miss = λ x y hx hy d. h .miss x y hx hy (λ b. d);
+      each = λ x y hx hy.
+          ⊎-elim (λ w. inl ((w .0, w .1), w .2)) (λ w. inr (λ z. w .0 (z .0) (z .1), w .1))
+          (stored n t s a b i v at hb x y hy);
+      rest = rest-store n t s a b i v at hb t (rest-refl t);
     }
 
--- what the inner loop keeps, from whatever table the pass began
-pub record Row (n : ℕ) (xs ys : Line) (v i j : ℕ) (s u : List ℕ) : Type 0 where
-  pub most : j ≤ n
-  pub rest : SameRest n s u
-  pub carry : (t : List ℕ) → Ready n t xs ys v → On n t xs i → At n xs ys v i 0 t s → At n xs ys v i j t u
+-- the flagged classes below k
+abbrev pub Passed : List Bool → ℕ → ℕ → Type 0
+Passed flags k x = (x < k) × Flagged flags x
 
-module _ (n : ℕ) (xs ys : Line) (v i j : ℕ) (s u : List ℕ) (w : Row n xs ys v i j s u) (hj : j < n) where
-  pub row-store : (k : ℕ) → Shape n u → IndexOf n i j k → On n u ys j → Row n xs ys v i (j + 1) s (set u k v)
-  row-store k sh at on =
-      record {
-        most = omega arith;
-        rest = rest-store n u sh i j k v at hj s (w .rest);
-        carry = λ t r p h.
-            let a = w .carry t r p h in
-            store n xs ys v i j t u a k sh at hj p (steady n xs ys v i j t u a ys (r .second) j hj .0 on);
-      }
+-- one class more is passed: itself where it is flagged, and nothing where it is not
+passed-more :
+    (flags : List Bool) (k : ℕ) → Flagged flags k → (x : ℕ)
+    → Passed flags (k + 1) x ↔ (Passed flags k x ⊎ (x ≡ k))
+passed-more flags k f x = (
+  λ p. go p (ℕ-discrete x k),
+  ⊎-elim (λ p. (omega (arith, p .0), p .1)) (λ e. (omega arith, rw e f)),
+)
+  where
+    go : Passed flags (k + 1) x → Dec (x ≡ k) → Passed flags k x ⊎ (x ≡ k)
+    go p (yes e) = inr e
+    go p (no d) = inl (omega (arith, p .0), p .1)
 
-  pub row-pass : (On n u ys j → ⊥) → Row n xs ys v i (j + 1) s u
-  row-pass off =
-      record {
-        most = omega arith;
-        rest = w .rest;
-        carry = λ t r p h.
-            let a = w .carry t r p h in
-            pass-column n xs ys v i j t u a (λ q. off (steady n xs ys v i j t u a ys (r .second) j hj .1 q));
-      }
+passed-over : (flags : List Bool) (k : ℕ) → ¬ Flagged flags k → (x : ℕ) → Passed flags k x ↔ Passed flags (k + 1) x
+passed-over flags k f x = (λ p. (omega (arith, p .0), p .1), λ p. go p (ℕ-discrete x k))
+  where
+    go : Passed flags (k + 1) x → Dec (x ≡ k) → Passed flags k x
+    go p (yes e) = absurd (f (rw e at (p .1)))
+    go p (no d) = (omega (arith, p .0), p .1)
+
+-- row a is marked up to column k
+pub record Row (n a : ℕ) (ys : List Bool) (v k : ℕ) (t u : List ℕ) : Type 0 where
+  pub most : k ≤ n
+  pub marked : Marked n (λ x y. (x ≡ a) × Passed ys k y) v t u
+
+module _ {n a : ℕ} {ys : List Bool} {v : ℕ} where
+  pub row-start : {t : List ℕ} → Row n a ys v 0 t t
+  row-start = record { most = omega arith; marked = marked-none (λ x y z. omega (arith, z .1 .0)) }
+
+  module _ {k : ℕ} {t u : List ℕ} (h : Row n a ys v k t u) (hk : k < n) where
+    pub row-flagged :
+        {i : ℕ} → Flagged ys k → Shape n u → IndexOf n a k i → Row n a ys v (k + 1) t (set u i v)
+    row-flagged f s at =
+        record {
+          most = omega arith;
+          marked = marked-both (h .marked) (marked-store s at hk) (λ x y. (
+            λ z. ⊎-elim (λ p. inl (z .0, p)) (λ e. inr (z .0, e)) (passed-more ys k f y .0 (z .1)),
+            ⊎-elim (λ z. (z .0, passed-more ys k f y .1 (inl (z .1))))
+                (λ z. (z .0, passed-more ys k f y .1 (inr (z .1)))),
+          ));
+        }
+
+    pub row-over : (i : ℕ) {m : ℕ} → m ≡ getD u i 0 → ¬ Flagged ys k → Row n a ys v (k + 1) t (set u i m)
+    row-over i e f =
+        record {
+          most = omega arith;
+          marked = rw (e, set-getD u i 0) (marked-same (h .marked) (λ x y hx hy. (
+            λ z. (z .0, passed-over ys k f y .0 (z .1)),
+            λ z. (z .0, passed-over ys k f y .1 (z .1)),
+          )));
+        }
+
+  pub row-end : {k : ℕ} {t u : List ℕ} → n ≤ k → Row n a ys v k t u → Marked n (λ x y. (x ≡ a) × Flagged ys y) v t u
+  row-end l h = marked-same (h .marked) (λ x y hx hy. (λ z. (z .0, z .1 .1), λ z. (z .0, (omega arith, z .1))))
+
+-- the rows before k are marked
+pub record Rows (n : ℕ) (xs ys : List Bool) (v k : ℕ) (t u : List ℕ) : Type 0 where
+  pub most : k ≤ n
+  pub marked : Marked n (λ x y. Passed xs k x × Flagged ys y) v t u
+
+module _ {n : ℕ} {xs ys : List Bool} {v : ℕ} where
+  pub rows-start : {t : List ℕ} → Rows n xs ys v 0 t t
+  rows-start = record { most = omega arith; marked = marked-none (λ x y z. omega (arith, z .0 .0)) }
+
+  module _ {k : ℕ} {t u : List ℕ} (h : Rows n xs ys v k t u) (hk : k < n) where
+    pub rows-flagged :
+        {w : List ℕ} → Flagged xs k → Marked n (λ x y. (x ≡ k) × Flagged ys y) v u w → Rows n xs ys v (k + 1) t w
+    rows-flagged f m =
+        record {
+          most = omega arith;
+          marked = marked-both (h .marked) m (λ x y. (
+            λ z. ⊎-elim (λ p. inl (p, z .1)) (λ e. inr (e, z .1)) (passed-more xs k f x .0 (z .0)),
+            ⊎-elim (λ z. (passed-more xs k f x .1 (inl (z .0)), z .1))
+                (λ z. (passed-more xs k f x .1 (inr (z .0)), z .1)),
+          ));
+        }
+
+    pub rows-over : ¬ Flagged xs k → Rows n xs ys v (k + 1) t u
+    rows-over f =
+        record {
+          most = omega arith;
+          marked = marked-same (h .marked) (λ x y hx hy. (
+            λ z. (passed-over xs k f x .0 (z .0), z .1),
+            λ z. (passed-over xs k f x .1 (z .0), z .1),
+          ));
+        }
+
+  pub rows-end :
+      {k : ℕ} {t u : List ℕ} → n ≤ k → Rows n xs ys v k t u → Marked n (λ x y. Flagged xs x × Flagged ys y) v t u
+  rows-end l h = marked-same (h .marked) (λ x y hx hy. (λ z. (z .0 .1, z .1), λ z. ((omega arith, z .0), z .1)))

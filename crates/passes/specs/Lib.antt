@@ -1,2 +1,2 @@
-pub mod Spread
+pub mod Marked
 pub mod Taken

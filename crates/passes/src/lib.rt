@@ -1,47 +1,58 @@
 // A fact on an open pair of a sound table is taken in, in place, by passes over the pairs of two lines.
-use marks::Line;
+mod lines;
+
+use lines::column_flags;
+use lines::row_flags;
 use marks::NO;
 use marks::YES;
-use marks::column;
 use marks::index;
-use marks::on;
-use marks::row;
+ghost use mathlib.Core.Path.{_≡_};
+ghost use Prim.Native.Nat.{_<_};
 ghost use Rattle.order.specs.Facts.{under, notUnder};
-ghost use Rattle.passes.specs.Spread.{Ready, Spread};
+ghost use Rattle.marks.specs.Shape.{Shape};
+ghost use Rattle.passes.specs.Marked.{Flagged, Marked};
 ghost use Rattle.passes.specs.Taken.{Takes, TakenIn};
 
-// (x, y) becomes v for every x on the one line and every y on the other.
-fn spread(n: usize, table: &mut [u8], xs: Line, ys: Line, v: u8)
-    requires { ⌜ Ready n (now table) xs ys v ⌝ }
-    ensures { λ _. ⌜ Spread n xs ys v (now (table .entry)) (now (table .exit)) ⌝ }
+// (x, y) becomes v for every flagged y. Each byte of the row is stored, changed or not: a loop without branches becomes vector code.
+fn mark_row(n: usize, table: &mut [u8], x: usize, ys: &[bool; 128], v: u8)
+    requires { ⌜ (Shape n (now table)) × (x < n) ⌝ }
+    ensures { λ _. ⌜ Marked n (λ a b. (a ≡ x) × Flagged (now (ys .entry)) b) v
+        (now (table .entry)) (now (table .exit)) ⌝ }
+{
+    let start = index(n, x, 0);
+    for y in 0..n {
+        let i = start + y;
+        let old = table[i];
+        table[i] = if ys[y] { v } else { old };
+    }
+}
+
+// (x, y) becomes v for every flagged x and every flagged y.
+fn spread(n: usize, table: &mut [u8], xs: &[bool; 128], ys: &[bool; 128], v: u8)
+    requires { ⌜ Shape n (now table) ⌝ }
+    ensures { λ _. ⌜ Marked n (λ a b. Flagged (now (xs .entry)) a × Flagged (now (ys .entry)) b) v
+        (now (table .entry)) (now (table .exit)) ⌝ }
 {
     for x in 0..n {
-        let here = on(n, &*table, xs, x);
-        if here {
-            for y in 0..n {
-                let there = on(n, &*table, ys, y);
-                if there {
-                    let i = index(n, x, y);
-                    table[i] = v;
-                }
-            }
+        if xs[x] {
+            mark_row(n, &mut *table, x, ys, v);
         }
     }
 }
 
 // a is under b. What is under a is under what is above b; what is above b is not under what a is not under; and what is not under b is
-// not under what is under a.
+// not under what is under a. All four lines are those of the table before.
 pub fn take_yes(n: usize, table: &mut [u8], a: usize, b: usize)
     requires { ⌜ Takes n (now table) a b ⌝ }
     ensures { λ _. ⌜ TakenIn n (under a b) (now (table .entry)) (now (table .exit)) ⌝ }
 {
-    let under_a = column(a, YES);
-    let above_b = row(b, YES);
-    let not_above_a = row(a, NO);
-    let not_under_b = column(b, NO);
-    spread(n, &mut *table, under_a, above_b, YES);
-    spread(n, &mut *table, above_b, not_above_a, NO);
-    spread(n, &mut *table, not_under_b, under_a, NO);
+    let under_a = column_flags(n, &*table, a, YES);
+    let above_b = row_flags(n, &*table, b, YES);
+    let not_above_a = row_flags(n, &*table, a, NO);
+    let not_under_b = column_flags(n, &*table, b, NO);
+    spread(n, &mut *table, &under_a, &above_b, YES);
+    spread(n, &mut *table, &above_b, &not_above_a, NO);
+    spread(n, &mut *table, &not_under_b, &under_a, NO);
 }
 
 // c is not under d. What is above c is not under what is under d.
@@ -49,7 +60,7 @@ pub fn take_no(n: usize, table: &mut [u8], c: usize, d: usize)
     requires { ⌜ Takes n (now table) c d ⌝ }
     ensures { λ _. ⌜ TakenIn n (notUnder c d) (now (table .entry)) (now (table .exit)) ⌝ }
 {
-    let above_c = row(c, YES);
-    let under_d = column(d, YES);
-    spread(n, &mut *table, above_c, under_d, NO);
+    let above_c = row_flags(n, &*table, c, YES);
+    let under_d = column_flags(n, &*table, d, YES);
+    spread(n, &mut *table, &above_c, &under_d, NO);
 }

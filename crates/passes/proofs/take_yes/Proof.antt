@@ -1,50 +1,37 @@
--- `passes::take_yes` meets its contract: three passes, each ready after those before it.
+-- `passes::take_yes` meets its contract: three passes over lines of the table before them.
 -- Assumes nothing.
 use borrow.Author.Needs.{needs}
-use Rattle.passes.proofs.Passes.{first-ready, second-ready, third-ready, yes-taken}
+use Rattle.order.proofs.Bytes.{rest-trans}
+use Rattle.marks.proofs.Shape.{shape-kept}
+use Rattle.passes.proofs.Passes.{yes-taken}
 use Rattle.passes.proofs.take_yes.Statement.{statement}
 use Rattle.passes.proofs.take_yes.Tie as tie
 
-column-requires : tie.Need-column-requires
-column-requires c κs = search needs
+column-flags-requires : tie.Need-column-flags-requires
+column-flags-requires c κs = search needs
 
-row-requires : tie.Need-row-requires
-row-requires c κs = search needs
+row-flags-requires : tie.Need-row-flags-requires
+row-flags-requires c κs = search needs
 
-row-requires-2 : tie.Need-row-requires-2
-row-requires-2 c κs = search needs
+row-flags-requires-2 : tie.Need-row-flags-requires-2
+row-flags-requires-2 c κs = search needs
 
-column-requires-2 : tie.Need-column-requires-2
-column-requires-2 c κs = search needs
+column-flags-requires-2 : tie.Need-column-flags-requires-2
+column-flags-requires-2 c κs = search needs
 
 spread-requires : tie.Need-spread-requires
-spread-requires c κs =
-    let lines = c .before in
-    let above-b = lines .before .before in
-    let under-a = above-b .before in
-    rw (under-a .column .ensures, above-b .row .ensures) (first-ready (under-a .before .before .pre))
+spread-requires c κs = search needs
 
 spread-requires-2 : tie.Need-spread-requires-2
-spread-requires-2 c κs =
-    let one = c .before .before .before in
-    let lines = one .before .before in
-    let above-b = lines .before .before in
-    let under-a = above-b .before in
-    rw (above-b .row .ensures, lines .before .row2 .ensures)
-    (second-ready (under-a .before .before .pre)
-    (rw (under-a .column .ensures, above-b .row .ensures) at (one .spread .ensures)))
+spread-requires-2 c κs = search needs
 
 spread-requires-3 : tie.Need-spread-requires-3
 spread-requires-3 c κs =
-    let two = c .before .before .before in
-    let one = two .before .before .before .before in
-    let lines = one .before .before in
-    let above-b = lines .before .before in
-    let under-a = above-b .before in
-    rw (lines .column2 .ensures, under-a .column .ensures)
-    (third-ready (under-a .before .before .pre)
-    (rw (under-a .column .ensures, above-b .row .ensures) at (one .spread .ensures))
-    (rw (above-b .row .ensures, lines .before .row2 .ensures) at (two .spread2 .ensures)))
+    let two = c .before .before .before .before .before in
+    let one = two .before .before .before .before .before .before in
+    let under-a = one .before .before .before .before .before .before .before .before .before .before in
+    shape-kept (under-a .before .before .before .pre .shape)
+    (rest-trans (one .spread .ensures .rest) (two .spread2 .ensures .rest))
 
 same-length : tie.Need-same-length
 same-length c = search needs
@@ -52,24 +39,24 @@ same-length c = search needs
 returns : tie.Need-returns
 returns c =
     let three = c .before .before in
-    let two = three .before .before .before .before in
-    let one = two .before .before .before .before in
-    let lines = one .before .before in
-    let above-b = lines .before .before in
-    let under-a = above-b .before in
-    yes-taken (under-a .before .before .pre)
-    (rw (under-a .column .ensures, above-b .row .ensures) at (one .spread .ensures))
-    (rw (above-b .row .ensures, lines .before .row2 .ensures) at (two .spread2 .ensures))
-    (rw (lines .column2 .ensures, under-a .column .ensures) at (three .spread3 .ensures))
+    let two = three .before .before .before .before .before .before in
+    let one = two .before .before .before .before .before .before in
+    let not-under-b = one .before .before .before .before in
+    let not-above-a = not-under-b .before .before in
+    let above-b = not-above-a .before .before in
+    let under-a = above-b .before .before in
+    yes-taken (under-a .before .before .before .pre) (under-a .column-flags .ensures) (above-b .row-flags .ensures)
+    (not-above-a .row-flags2 .ensures) (not-under-b .column-flags2 .ensures) (one .spread .ensures)
+    (two .spread2 .ensures) (three .spread3 .ensures)
 
 pub take-yes-spec : {M : Type 1} → statement M
 take-yes-spec =
     tie.close
     (tie.spec
-    column-requires
-    row-requires
-    row-requires-2
-    column-requires-2
+    column-flags-requires
+    row-flags-requires
+    row-flags-requires-2
+    column-flags-requires-2
     spread-requires
     spread-requires-2
     spread-requires-3
