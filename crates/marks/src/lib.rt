@@ -1,13 +1,9 @@
 // The marks in lent bytes. `passes` and `standing`, right above, walk the table by index too; the rest of the library speaks of facts and
 // sound tables, and never of an index.
-mod lines;
 mod pairs;
 mod single;
 mod whole;
 
-pub use lines::column;
-pub use lines::on;
-pub use lines::row;
 pub use pairs::put_pair;
 pub use single::index;
 pub use single::is_marked;
@@ -29,10 +25,3 @@ pub const OPEN: u8 = 0;
 pub const YES: u8 = 1;
 
 pub const NO: u8 = 2;
-
-// The classes at which the row of a class, or its column, has a mark.
-pub struct Line {
-    pub row: bool,
-    pub class: usize,
-    pub mark: u8,
-}
