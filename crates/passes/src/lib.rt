@@ -6,6 +6,7 @@ use lines::row_flags;
 use marks::NO;
 use marks::YES;
 use marks::index;
+use promise::MOST_CLASSES;
 ghost use mathlib.Core.Path.{_≡_};
 ghost use Prim.Native.Nat.{_<_};
 ghost use Rattle.order.specs.Facts.{under, notUnder};
@@ -14,7 +15,7 @@ ghost use Rattle.passes.specs.Marked.{Flagged, Marked};
 ghost use Rattle.passes.specs.Taken.{Takes, TakenIn};
 
 // (x, y) becomes v for every flagged y. Each byte of the row is stored, changed or not: a loop without branches becomes vector code.
-fn mark_row(n: usize, table: &mut [u8], x: usize, ys: &[bool; 128], v: u8)
+fn mark_row(n: usize, table: &mut [u8], x: usize, ys: &[bool; MOST_CLASSES], v: u8)
     requires { ⌜ (Shape n (now table)) × (x < n) ⌝ }
     ensures { λ _. ⌜ Marked n (λ a b. (a ≡ x) × Flagged (now (ys .entry)) b) v
         (now (table .entry)) (now (table .exit)) ⌝ }
@@ -28,7 +29,7 @@ fn mark_row(n: usize, table: &mut [u8], x: usize, ys: &[bool; 128], v: u8)
 }
 
 // (x, y) becomes v for every flagged x and every flagged y.
-fn spread(n: usize, table: &mut [u8], xs: &[bool; 128], ys: &[bool; 128], v: u8)
+fn spread(n: usize, table: &mut [u8], xs: &[bool; MOST_CLASSES], ys: &[bool; MOST_CLASSES], v: u8)
     requires { ⌜ Shape n (now table) ⌝ }
     ensures { λ _. ⌜ Marked n (λ a b. Flagged (now (xs .entry)) a × Flagged (now (ys .entry)) b) v
         (now (table .entry)) (now (table .exit)) ⌝ }
