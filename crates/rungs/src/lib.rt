@@ -1,25 +1,37 @@
 // The rungs of a ladder.
 use marks::under;
+use promise::MOST_CLASSES;
+use steps::find_thirds;
 use steps::is_direct;
 ghost use mathlib.Core.Path.{_≡_};
 ghost use mathlib.Core.Logic.{_↔_};
 ghost use mathlib.Core.Bool.{true};
 ghost use Prim.Native.Nat.{_<_};
-ghost use Rattle.promise.specs.Hierarchy.{Under, Direct};
+ghost use Rattle.promise.specs.Hierarchy.{Under, Head, Direct};
 ghost use Rattle.promise.specs.Ladder.{NextRung};
 ghost use Rattle.steps.specs.Found.{Found};
+ghost use Rattle.steps.specs.Between.{ThirdsOf};
 ghost use Rattle.rungs.specs.Climb.{BelowGoal, Reached, Climbed};
 
-// Whether c is directly above the rung and under the goal.
-fn leads_on(n: usize, table: &[u8], heads: &[u8], goal: usize, rung: usize, c: usize) -> bool
-    requires { ⌜ (Found n (now table) (now heads)) × (goal < n) × (rung < n) × (c < n) ⌝ }
+// Whether c is directly above the rung, whose thirds are found, and under the goal.
+fn leads_on(
+    n: usize,
+    table: &[u8],
+    heads: &[u8],
+    thirds: &[bool],
+    goal: usize,
+    rung: usize,
+    c: usize,
+) -> bool
+    requires { ⌜ (Found n (now table) (now heads)) × (ThirdsOf n (now table) rung (now thirds)) × (Head n (now table) rung)
+        × (goal < n) × (c < n) ⌝ }
     ensures { λ r. ⌜ (r ≡ true) ↔ (Direct n (now (table .entry)) rung c × Under n (now (table .entry)) c goal) ⌝ }
 {
-    let below = under(n, table, c, goal);
-    if !below {
+    let direct = is_direct(n, table, heads, thirds, rung, c);
+    if !direct {
         return false;
     }
-    is_direct(n, table, heads, rung, c)
+    under(n, table, c, goal)
 }
 
 // The lowest-numbered head directly above the rung and under the goal. There is one, since the rung is not the goal's head.
@@ -27,9 +39,11 @@ fn next_rung(n: usize, table: &[u8], heads: &[u8], goal: usize, rung: usize) -> 
     requires { ⌜ (Found n (now table) (now heads)) × (BelowGoal n (now table) goal rung) ⌝ }
     ensures { λ r. ⌜ NextRung n (now (table .entry)) goal rung r ⌝ }
 {
+    let mut thirds: [bool; MOST_CLASSES] = [false; MOST_CLASSES];
+    find_thirds(n, table, heads, rung, &mut thirds[..]);
     let mut next = n;
     for c in 0..n {
-        let on = leads_on(n, table, heads, goal, rung, c);
+        let on = leads_on(n, table, heads, &thirds[..], goal, rung, c);
         if on {
             if c < next {
                 next = c;

@@ -5,20 +5,20 @@ use Rattle.marks.proofs.Answers.{granted, denied, never}
 use Rattle.rungs.proofs.leads_on.Statement.{statement}
 use Rattle.rungs.proofs.leads_on.Tie as tie
 
-under-requires : tie.Need-under-requires
-under-requires c κs = search needs
-
-returns : tie.Need-returns
-returns c = never (λ h. denied (c .if1 .taken) (c .before .under .ensures) (h .1))
-
 is-direct-requires : tie.Need-is-direct-requires
 is-direct-requires c κs = search needs
 
+returns : tie.Need-returns
+returns c = never (λ h. denied (c .if1 .taken) (c .before .is-direct .ensures) (h .0))
+
+under-requires : tie.Need-under-requires
+under-requires c κs = search needs
+
 returns-2 : tie.Need-returns-2
 returns-2 c = (
-  λ e. (c .is-direct .ensures .0 e, granted (c .before .if1 .left) (c .before .before .under .ensures)),
-  λ h. c .is-direct .ensures .1 (h .0),
+  λ e. (granted (c .before .if1 .left) (c .before .before .is-direct .ensures), c .under .ensures .0 e),
+  λ h. c .under .ensures .1 (h .1),
 )
 
 pub leads-on-spec : {M : Type 1} → statement M
-leads-on-spec = tie.close (tie.spec under-requires returns is-direct-requires returns-2)
+leads-on-spec = tie.close (tie.spec is-direct-requires returns under-requires returns-2)

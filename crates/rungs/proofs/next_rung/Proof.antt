@@ -8,6 +8,7 @@ use borrow.Author.Needs.{needs}
 use Rattle.promise.specs.Hierarchy.{Under, Direct}
 use Rattle.promise.proofs.Ladder.{rung-there}
 use Rattle.marks.proofs.Answers.{refuted}
+use Rattle.steps.proofs.Between.{none-yet}
 use Rattle.steps.proofs.Lowest.{Lowest, lowest-none, lowest-pass, lowest-keep, lowest-take, lowest-least, lowest-has}
 use Rattle.rungs.proofs.next_rung.Statement.{statement}
 use Rattle.rungs.proofs.next_rung.Tie as tie
@@ -17,16 +18,29 @@ abbrev LeadsOn : ℕ → List ℕ → ℕ → ℕ → ℕ → Type 0
 LeadsOn n t goal rung c = Direct n t rung c × Under n t c goal
 
 abbrev Inv-loop : tie.InvT-loop
-Inv-loop n table heads goal rung next₀ c₀ next c = Lowest n (LeadsOn n table goal rung) next c
+Inv-loop n table heads goal rung thirds next₀ c₀ next c = Lowest n (LeadsOn n table goal rung) next c
 
 abbrev μ-loop : tie.MeasureT-loop
-μ-loop n table heads goal rung next₀ c₀ next c = n - c
+μ-loop n table heads goal rung thirds next₀ c₀ next c = n - c
+
+slice-aggregate-find-thirds : tie.Need-slice-aggregate-find-thirds Inv-loop μ-loop
+slice-aggregate-find-thirds c = search needs
+
+find-thirds-requires : tie.Need-find-thirds-requires Inv-loop μ-loop
+find-thirds-requires c κs =
+    let p = c .before .before .before .pre in (p .0, p .1 .head .below, none-yet (p .0 .ordered .shape .few))
 
 loop-holds : tie.Need-loop-holds Inv-loop μ-loop
 loop-holds c = lowest-none (λ z. absurd (omega arith))
 
+slice-aggregate-leads-on : tie.Need-slice-aggregate-leads-on Inv-loop μ-loop
+slice-aggregate-leads-on c = search needs
+
 leads-on-requires : tie.Need-leads-on-requires Inv-loop μ-loop
-leads-on-requires c κs = search needs
+leads-on-requires c κs =
+    let found = c .before .before .before .before in
+    let p = found .before .before .before .before .pre in
+    (p .0, found .find-thirds .ensures, p .1 .head, p .1 .goal-below, c .before .loop-test .taken)
 
 add-c : tie.Need-add-c Inv-loop μ-loop
 add-c c = omega arith
@@ -36,7 +50,7 @@ loop-less c = omega arith
 
 loop-again : tie.Need-loop-again Inv-loop μ-loop
 loop-again c =
-    let h = c .before .before .before .loop .inv in
+    let h = c .before .before .before .before .loop .inv in
     let on = c .before .leads-on .ensures in
     ⊎-elim (λ w. rw (w .2) (lowest-take (omega arith) h (on .0 (w .0 .taken)) (w .1 .taken)))
     (⊎-elim (λ w. rw (w .2) (lowest-keep (omega arith) h (w .1 .left)))
@@ -44,7 +58,7 @@ loop-again c =
 
 returns : tie.Need-returns Inv-loop μ-loop
 returns c =
-    let p = c .before .before .before .before .pre in
+    let p = c .before .before .before .before .before .before .before .pre in
     let s = p .1 in
     let h = c .before .loop .inv in
     let r = rung-there _ _ (p .0 .ordered .sound) (s .goal-below) (s .head) (s .under) (s .not-yet) .1 in
@@ -58,4 +72,15 @@ returns c =
 pub next-rung-spec : {M : Type 1} → statement M
 next-rung-spec =
     tie.close
-    (tie.spec Inv-loop μ-loop loop-holds leads-on-requires add-c loop-less loop-again returns)
+    (tie.spec
+    Inv-loop
+    μ-loop
+    slice-aggregate-find-thirds
+    find-thirds-requires
+    loop-holds
+    slice-aggregate-leads-on
+    leads-on-requires
+    add-c
+    loop-less
+    loop-again
+    returns)

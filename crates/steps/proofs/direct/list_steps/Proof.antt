@@ -8,14 +8,17 @@ use Rattle.promise.specs.Hierarchy.{Direct}
 use Rattle.promise.proofs.Hierarchy.{direct?}
 use Rattle.marks.proofs.Answers.{refuted}
 use Rattle.marks.proofs.Noting.{SoFar, Along, so-far-none, along-none, few, hit, miss, row-end, all-noted}
+use Rattle.steps.proofs.Found.{head-at}
+use Rattle.steps.proofs.Between.{none-yet, no-steps}
 use Rattle.steps.proofs.direct.list_steps.Statement.{statement}
 use Rattle.steps.proofs.direct.list_steps.Tie as tie
 
 abbrev Inv-loop2 : tie.InvT-loop2
-Inv-loop2 n table heads steps₀ count₀ a b₀ steps count b = (b ≤ n) × Along (Direct n table) (direct? n table) n a steps₀ count₀ steps count b
+Inv-loop2 n table heads steps₀ count₀ a head thirds b₀ steps count b =
+    (b ≤ n) × Along (Direct n table) (direct? n table) n a steps₀ count₀ steps count b
 
 abbrev μ-loop2 : tie.MeasureT-loop2
-μ-loop2 n table heads steps₀ count₀ a b₀ steps count b = n - b
+μ-loop2 n table heads steps₀ count₀ a head thirds b₀ steps count b = n - b
 
 abbrev Inv-loop : tie.InvT-loop
 Inv-loop n table heads steps₀ count₀ a₀ steps count a = (a ≤ n) × SoFar (Direct n table) (direct? n table) n steps₀ count steps a 0
@@ -26,27 +29,52 @@ abbrev μ-loop : tie.MeasureT-loop
 loop-holds : tie.Need-loop-holds Inv-loop2 μ-loop2 Inv-loop μ-loop
 loop-holds c = (omega arith, so-far-none _)
 
+is-head-requires : tie.Need-is-head-requires Inv-loop2 μ-loop2 Inv-loop μ-loop
+is-head-requires c κs = search needs
+
+slice-aggregate-find-thirds : tie.Need-slice-aggregate-find-thirds Inv-loop2 μ-loop2 Inv-loop μ-loop
+slice-aggregate-find-thirds c = search needs
+
+find-thirds-requires : tie.Need-find-thirds-requires Inv-loop2 μ-loop2 Inv-loop μ-loop
+find-thirds-requires c κs =
+    let l = c .before .before .before .before in
+    let f = l .before .before .before .before .pre in
+    (f, c .before .before .before .loop-test .taken, none-yet (f .ordered .shape .few))
+
 loop2-holds : tie.Need-loop2-holds Inv-loop2 μ-loop2 Inv-loop μ-loop
 loop2-holds c = (omega arith, along-none)
 
+slice-aggregate-is-direct : tie.Need-slice-aggregate-is-direct Inv-loop2 μ-loop2 Inv-loop μ-loop
+slice-aggregate-is-direct c = search needs
+
 is-direct-requires : tie.Need-is-direct-requires Inv-loop2 μ-loop2 Inv-loop μ-loop
-is-direct-requires c κs = search needs
+is-direct-requires c κs =
+    let found = c .before .before .before .before in
+    let tested = found .before .before in
+    let turn = tested .before .before in
+    let f = turn .before .before .before .before .before .pre in (
+      f,
+      found .find-thirds .ensures,
+      head-at f (turn .loop-test .taken) .0 (tested .before .is-head .ensures .0 (tested .if1 .taken)),
+      c .before .loop2-test .taken,
+    )
 
 -- the steps noted so far are few
 so-few : (c : tie.In-loop2 Inv-loop2 μ-loop2 Inv-loop μ-loop) → c .before .loop2 .count < 16384
 so-few c =
-    let l = c .before .before .before in
+    let turn = c .before .before .before .before .before .before .before in
+    let l = turn .before in
     few (c .before .loop2 .inv .1 .carry _ (l .loop .inv .1)) (l .before .before .before .before .pre .ordered .shape .few)
-    (omega arith) (omega arith)
+    (turn .loop-test .taken) (c .loop2-test .taken)
 
 mul-put-pair : tie.Need-mul-put-pair Inv-loop2 μ-loop2 Inv-loop μ-loop
-mul-put-pair c = omega (arith, so-few (c .before .before .before))
+mul-put-pair c = omega (arith, so-few (c .before .before .before .before))
 
 put-pair-requires : tie.Need-put-pair-requires Inv-loop2 μ-loop2 Inv-loop μ-loop
-put-pair-requires c κs = (omega (arith, so-few (c .before .before .before)), omega arith, omega arith)
+put-pair-requires c κs = (omega (arith, so-few (c .before .before .before .before)), omega arith, omega arith)
 
 add-count : tie.Need-add-count Inv-loop2 μ-loop2 Inv-loop μ-loop
-add-count c = omega (arith, so-few (c .before .before .before .before .before .before))
+add-count c = omega (arith, so-few (c .before .before .before .before .before .before .before))
 
 add-b : tie.Need-add-b Inv-loop2 μ-loop2 Inv-loop μ-loop
 add-b c = omega arith
@@ -56,14 +84,14 @@ loop2-less c = omega arith
 
 loop2-again : tie.Need-loop2-again Inv-loop2 μ-loop2 Inv-loop μ-loop
 loop2-again c =
-    let m = c .before .before .before in
+    let m = c .before .before .before .before in
     let direct = c .before .is-direct .ensures in (
       omega arith,
       record {
         carry = λ out h.
             let s = m .loop2 .inv .1 .carry out h in
             ⊎-elim (λ w. rw (w .5, w .6) (hit s (direct .0 (w .0 .taken)) (w .2 .kept .0) (w .2 .ensures)))
-            (λ w. rw (w .1, w .2) (miss s (refuted (w .0 .left) direct))) (c .if1 .came);
+            (λ w. rw (w .1, w .2) (miss s (refuted (w .0 .left) direct))) (c .if2 .came);
       },
     )
 
@@ -75,8 +103,16 @@ loop-less c = omega arith
 
 loop-again : tie.Need-loop-again Inv-loop2 μ-loop2 Inv-loop μ-loop
 loop-again c =
-    let s = c .before .loop2 .inv .1 .carry _ (c .before .before .before .loop .inv .1) in
-    (omega arith, row-end s (omega arith))
+    let turn = c .before .before in
+    let h = turn .before .loop .inv .1 in
+    let f = turn .before .before .before .before .before .pre in (
+      omega arith,
+      ⊎-elim (λ w. rw (w .6, w .7) (row-end (w .4 .inv .1 .carry _ h) (omega (arith, w .4 .inv .0, w .5 .left))))
+          (λ w.
+          rw (w .1, w .2)
+          (no-steps (λ p. refuted (w .0 .left) (c .before .is-head .ensures) (head-at f (turn .loop-test .taken) .1 p)) h))
+          (c .if1 .came),
+    )
 
 same-length : tie.Need-same-length Inv-loop2 μ-loop2 Inv-loop μ-loop
 same-length c = c .before .loop .inv .1 .noted .size
@@ -93,7 +129,11 @@ list-steps-spec =
     Inv-loop
     μ-loop
     loop-holds
+    is-head-requires
+    slice-aggregate-find-thirds
+    find-thirds-requires
     loop2-holds
+    slice-aggregate-is-direct
     is-direct-requires
     mul-put-pair
     put-pair-requires
