@@ -1,4 +1,5 @@
-// What a call gave: its reply, how many marks are open, what next asks, and the marks row by row; or a count and the bytes of a buffer.
+// What a call gave, in words: its reply, how many marks are open, what next asks, and the marks row by row; or a count and the bytes of a
+// buffer.
 use libc::STDOUT_FILENO;
 use promise::Question;
 use promise::Reply;
@@ -8,46 +9,32 @@ pub fn text(words: &[u8]) {
     io::write_all(STDOUT_FILENO, words);
 }
 
-pub fn number(x: usize) {
+fn number(x: usize) {
     io::print_decimal(STDOUT_FILENO, x as u64);
 }
 
-fn byte(x: u8) {
-    io::print_decimal(STDOUT_FILENO, x as u64);
+// Words and the number that they are about.
+fn labelled(words: &[u8], x: usize) {
+    text(words);
+    number(x);
 }
 
 // Two class numbers.
 pub fn pair(a: usize, b: usize) {
     number(a);
-    text(b" ");
-    number(b);
-}
-
-// A fact as its call is given it.
-pub fn fact(lower: usize, upper: usize, holds: bool) {
-    if holds {
-        text(b"yes ");
-    } else {
-        text(b"no ");
-    }
-    pair(lower, upper);
-    text(b": ");
+    labelled(b" ", b);
 }
 
 fn refusal(why: u8, place: usize) {
-    text(b" refused ");
-    byte(why);
-    text(b" place ");
-    number(place);
+    labelled(b" refused ", why as usize);
+    labelled(b" place ", place);
 }
 
-// What hierarchy and ladder give.
-pub fn wrote(given: Wrote) {
+// What hierarchy, ladder and write give, behind the call.
+pub fn wrote(call: &[u8], given: Wrote) {
+    text(call);
     match given {
-        Wrote::Count(count) => {
-            text(b" count ");
-            number(count);
-        }
+        Wrote::Count(count) => labelled(b" count ", count),
         Wrote::Refused { number: why, place } => refusal(why, place),
     }
 }
@@ -79,7 +66,7 @@ fn mark(n: usize, i: usize, m: u8) {
     if begins_row(n, i) {
         text(b" ");
     }
-    byte(m);
+    number(m as usize);
 }
 
 // The marks, a space before each row of n.
@@ -93,12 +80,12 @@ fn marks(n: usize, table: &[u8]) {
 }
 
 fn spaced(x: u8) {
-    text(b" ");
-    byte(x);
+    labelled(b" ", x as usize);
 }
 
-// All bytes of a buffer, a space before each.
-pub fn bytes(buffer: &[u8]) {
+// All bytes of a buffer behind its name, a space before each.
+pub fn bytes(name: &[u8], buffer: &[u8]) {
+    text(name);
     let mut i: usize = 0;
     while i < buffer.len() {
         spaced(buffer[i]);
@@ -119,26 +106,17 @@ fn open_marks(table: &[u8]) -> usize {
     open
 }
 
-// What the call replied, how many marks are open, and what next gives.
-pub fn reply(given: Reply, table: &[u8]) {
+// A whole line: what the call replied, how many marks are open, what next gives, and the marks, unless they are too many to print.
+pub fn reply(given: Reply, asked: Question, table: &[u8]) {
     let session = given.session;
-    text(b"number ");
-    byte(given.number);
-    text(b" place ");
-    number(given.place);
-    text(b" classes ");
-    number(session.classes);
-    text(b" tests ");
-    number(session.tests);
-    text(b" open ");
-    number(open_marks(table));
-    question(session::next(session, table));
-}
-
-// A whole line, with the marks.
-pub fn line(given: Reply, table: &[u8]) {
-    reply(given, table);
-    let session = given.session;
-    marks(session.classes, table);
+    labelled(b"number ", given.number as usize);
+    labelled(b" place ", given.place);
+    labelled(b" classes ", session.classes);
+    labelled(b" tests ", session.tests);
+    labelled(b" open ", open_marks(table));
+    question(asked);
+    if table.len() <= 16 {
+        marks(session.classes, table);
+    }
     text(b"\n");
 }

@@ -1,10 +1,10 @@
--- `worked::print::marks` meets its contract: the index stays within the table.
+-- `shown::marks` meets its contract: the index stays within the table.
 -- Assumes nothing.
 use Prim.Native.Nat.{_≤_, _-_}
 use lib.ListN.{length}
 use borrow.Author.Needs.{needs}
-use Rattle.worked.proofs.print.marks.Statement.{statement}
-use Rattle.worked.proofs.print.marks.Tie as tie
+use Rattle.shown.proofs.marks.Statement.{statement}
+use Rattle.shown.proofs.marks.Tie as tie
 
 abbrev Inv-loop : tie.InvT-loop
 Inv-loop n table i₀ i = i ≤ length table

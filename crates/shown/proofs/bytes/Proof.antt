@@ -1,16 +1,19 @@
--- `worked::print::bytes` meets its contract: the index stays within the buffer.
+-- `shown::bytes` meets its contract: the index stays within the buffer.
 -- Assumes nothing.
 use Prim.Native.Nat.{_≤_, _-_}
 use lib.ListN.{length}
 use borrow.Author.Needs.{needs}
-use Rattle.worked.proofs.print.bytes.Statement.{statement}
-use Rattle.worked.proofs.print.bytes.Tie as tie
+use Rattle.shown.proofs.bytes.Statement.{statement}
+use Rattle.shown.proofs.bytes.Tie as tie
 
 abbrev Inv-loop : tie.InvT-loop
-Inv-loop buffer i₀ i = i ≤ length buffer
+Inv-loop name buffer i₀ i = i ≤ length buffer
 
 abbrev μ-loop : tie.MeasureT-loop
-μ-loop buffer i₀ i = length buffer - i
+μ-loop name buffer i₀ i = length buffer - i
+
+text-requires : tie.Need-text-requires Inv-loop μ-loop
+text-requires c κs = search needs
 
 loop-holds : tie.Need-loop-holds Inv-loop μ-loop
 loop-holds c = search needs
@@ -39,6 +42,7 @@ bytes-spec =
     (tie.spec
     Inv-loop
     μ-loop
+    text-requires
     loop-holds
     shared-slice-read-spaced
     spaced-requires
