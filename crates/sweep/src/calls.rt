@@ -1,12 +1,12 @@
 // The calls: what each draws, and what is kept after it.
-use crate::answers::Counted;
 use crate::draw::Fact;
 use crate::draw::draw;
 use crate::draw::draw_fact;
-use crate::draw::draw_room;
+use crate::draw::draw_lent;
 use crate::draw::draw_rooms;
 use crate::draw::draw_rungs;
 use crate::draw::draw_verdict;
+use crate::draw::square;
 use crate::kept::Kept;
 use crate::kept::Sizes;
 use crate::kept::within;
@@ -101,61 +101,43 @@ pub fn ladder(sizes: Sizes, mut kept: Kept) -> Kept
     settle(kept, counted.number, session)
 }
 
-// The length of the book last written.
-fn written(counted: Counted, before: usize) -> usize {
-    if counted.number == 0 {
-        return counted.count;
-    }
-    before
-}
-
 pub fn write(sizes: Sizes, mut kept: Kept) -> Kept
     requires { ⌜ Few (sizes .n) ⌝ }
 {
-    let room = draw_room(&mut kept.state, sizes.n);
+    let longest = 10 + 2 * square(sizes.n);
+    let room = draw_lent(&mut kept.state, longest, longest, 0);
     let given = kept.given;
     let session = given.session;
     let mut book = kept.book;
     let counted = lent::write(session, given.lent, &kept.table, room, &mut book);
     kept.book = book;
-    kept.length = written(counted, kept.length);
+    if counted.number == 0 {
+        kept.length = counted.count;
+    }
     settle(kept, counted.number, session)
 }
 
-// If d is 0 a byte of the book last written changes, if there is one.
-fn change_book(mut kept: Kept, d: usize) -> Kept {
-    let length = within(kept.length, &kept.book);
-    if d != 0 {
-        return kept;
-    }
-    if length == 0 {
-        return kept;
-    }
-    let place = draw(&mut kept.state, length);
-    kept.book[place] = draw(&mut kept.state, 6) as u8;
-    kept
-}
-
-// How many bytes of the book are lent: if d is 1 perhaps not all.
-fn draw_part(state: &mut usize, d: usize, written: usize, book: &[u8]) -> usize {
-    let length = within(written, book);
+// How many bytes of the book last written are lent. Now and then one of them changes first.
+fn draw_part(state: &mut usize, written: usize, book: &mut [u8]) -> usize {
+    let length = within(written, &*book);
+    let d = draw(&mut *state, 4);
     if d == 1 {
         return draw(&mut *state, length + 1);
+    }
+    if d == 0 && length > 0 {
+        let place = draw(&mut *state, length);
+        book[place] = draw(&mut *state, 6) as u8;
     }
     length
 }
 
-fn read_part(sizes: Sizes, mut kept: Kept, d: usize) -> Kept {
+pub fn read(sizes: Sizes, mut kept: Kept) -> Kept {
     let length = kept.length;
-    let book = kept.book;
+    let mut book = kept.book;
     let mut spare = kept.spare;
-    let part = draw_part(&mut kept.state, d, length, &book);
+    let part = draw_part(&mut kept.state, length, &mut book);
     lent::read(part, &book, sizes.lent, &mut spare);
+    kept.book = book;
     kept.spare = spare;
     put_back(kept)
-}
-
-pub fn read(sizes: Sizes, mut kept: Kept) -> Kept {
-    let d = draw(&mut kept.state, 4);
-    read_part(sizes, change_book(kept, d), d)
 }

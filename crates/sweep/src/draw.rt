@@ -61,35 +61,30 @@ pub fn draw_fact(state: &mut usize, n: usize) -> Fact
     }
 }
 
+// How many bytes of a buffer are lent: now and then a few, otherwise most, and a draw more where there is one to make.
+pub fn draw_lent(state: &mut usize, few: usize, most: usize, more: usize) -> usize
+    requires { ⌜ (1 ≤ few) × (most ≤ 298) × (more ≤ 3) ⌝ }
+{
+    if draw(&mut *state, 4) == 0 {
+        return draw(&mut *state, few);
+    }
+    if more == 0 {
+        return most;
+    }
+    most + draw(&mut *state, more)
+}
+
 // How many bytes of heads and of steps hierarchy is lent.
 pub struct Rooms {
     pub heads: usize,
     pub steps: usize,
 }
 
-fn draw_heads(state: &mut usize, n: usize) -> usize
-    requires { ⌜ Few n ⌝ }
-{
-    if draw(&mut *state, 4) == 0 {
-        return draw(&mut *state, n + 1);
-    }
-    n + draw(&mut *state, 3)
-}
-
-fn draw_steps(state: &mut usize, n: usize) -> usize
-    requires { ⌜ Few n ⌝ }
-{
-    if draw(&mut *state, 4) == 0 {
-        return draw(&mut *state, 2 * n);
-    }
-    2 * square(n)
-}
-
 pub fn draw_rooms(state: &mut usize, n: usize) -> Rooms
     requires { ⌜ Few n ⌝ }
 {
-    let heads = draw_heads(&mut *state, n);
-    let steps = draw_steps(&mut *state, n);
+    let heads = draw_lent(&mut *state, n + 1, n, 3);
+    let steps = draw_lent(&mut *state, 2 * n, 2 * square(n), 0);
     Rooms {
         heads: heads,
         steps: steps,
@@ -103,35 +98,15 @@ pub struct Rungs {
     pub lent: usize,
 }
 
-fn draw_lent(state: &mut usize, n: usize) -> usize
-    requires { ⌜ n ≤ 12 ⌝ }
-{
-    if draw(&mut *state, 4) == 0 {
-        return draw(&mut *state, 3);
-    }
-    n + draw(&mut *state, 2)
-}
-
 pub fn draw_rungs(state: &mut usize, n: usize) -> Rungs
     requires { ⌜ Few n ⌝ }
 {
     let lower = draw_class(&mut *state, n);
     let upper = draw_class(&mut *state, n);
-    let lent = draw_lent(&mut *state, n);
+    let lent = draw_lent(&mut *state, 3, n, 2);
     Rungs {
         lower: lower,
         upper: upper,
         lent: lent,
     }
-}
-
-// How many bytes of book write is lent.
-pub fn draw_room(state: &mut usize, n: usize) -> usize
-    requires { ⌜ Few n ⌝ }
-{
-    let longest = 10 + 2 * square(n);
-    if draw(&mut *state, 4) == 0 {
-        return draw(&mut *state, longest);
-    }
-    longest
 }

@@ -6,19 +6,7 @@ use crate::kept::Kept;
 use crate::kept::Sizes;
 use crate::kept::unchanged;
 use promise::Session;
-ghost use Prim.Native.Nat.{_≤_};
 ghost use Rattle.sweep.specs.Few.{Few};
-
-// A class count that is not n.
-fn wrong_count(which: usize, n: usize) -> usize
-    requires { ⌜ n ≤ 12 ⌝ }
-{
-    match which {
-        0 => 0,
-        1 => n + 1,
-        _ => 200,
-    }
-}
 
 fn draw_trouble(state: &mut usize, sizes: Sizes, session: Session) -> Given
     requires { ⌜ Few (sizes .n) ⌝ }
@@ -37,7 +25,9 @@ fn draw_trouble(state: &mut usize, sizes: Sizes, session: Session) -> Given
             unchanged(troubled, sizes.lent)
         }
         2 => {
-            troubled.classes = wrong_count(draw(&mut *state, 3), sizes.n);
+            let wrong = [0, sizes.n + 1, 200];
+            let which = draw(&mut *state, 3);
+            troubled.classes = wrong[which];
             unchanged(troubled, sizes.lent)
         }
         3 => unchanged(session, draw(&mut *state, marks)),
