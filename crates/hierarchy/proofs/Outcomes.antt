@@ -6,11 +6,11 @@ use mathlib.Core.List.{List, [], _++_}
 use Prim.Native.Nat.{ℕ, _*_, _≤_, _<_}
 use native.Mathlib.Omega.{arith}
 use lib.ListN.{length, getD, take, drop}
-use lib.Seq.{length-take-le, getD-take}
+use lib.Seq.{length-take-le, getD-take, take-at}
 use Rattle.order.specs.Tables.{Sound, opens}
 use Rattle.order.specs.Pairs.{Pair, bytesOf}
 use Rattle.order.specs.Refusals.{First}
-use Rattle.order.proofs.Pairs.{lists-unique, length-bytes}
+use Rattle.order.proofs.Pairs.{length-bytes}
 use Rattle.promise.specs.declared.Session.{Session}
 use Rattle.promise.specs.declared.Wrote.{Wrote}
 use Rattle.promise.specs.declared.Wrote.the-variants.{Count, Refused}
@@ -22,7 +22,9 @@ use Rattle.promise.proofs.Standing.{Stands, standing-refused, first-stands}
 use Rattle.promise.proofs.Buffers.{writes-refused}
 use Rattle.promise.proofs.Hierarchy.{head-head, heads-there, step-bytes-unique}
 use Rattle.promise.proofs.Ladder.{number-most, to-go, through, ladder-unique}
-use Rattle.steps.specs.Found.{Found, StepsNoted}
+use Rattle.promise.proofs.Triangles.{steps-few}
+use Rattle.marks.proofs.Shape.{square}
+use Rattle.steps.specs.Found.{Ordered, Found, StepsNoted}
 use Rattle.rungs.specs.Climb.{Reached, Climbed}
 use Rattle.hierarchy.specs.Owed.{HierarchyLeft, HasLadder, LadderLeft}
 
@@ -33,6 +35,11 @@ heads-of {n} {t} {found} f =
       size = length-take-le n found (f .room);
       at = λ a h. rw (getD-take n found a 0 h) (f .at a h);
     }
+
+-- "8,192 bytes of steps" are room for all of them
+pub steps-fit :
+    {n : ℕ} {t out out′ : List ℕ} {count : ℕ} → Ordered n t → StepsNoted n t out count out′ → 2 * count ≤ 8192
+steps-fit {n} o (l, p, noted) = omega (arith, noted .counted, steps-few (o .sound) p, square n (o .shape .few))
 
 module _ {n : ℕ} {t heads steps : List ℕ} where
   too-short :
@@ -50,29 +57,31 @@ module _ {n : ℕ} {t heads steps : List ℕ} where
       too-short (inr (bytesOf l, (l, p, refl), omega (arith, noted .counted, length-bytes l)))
 
   pub hierarchy-done :
-      {found heads′ out out′ steps′ : List ℕ} {count count₂ : ℕ} → Found n t found → n ≤ length heads
-      → heads′ ≡ over (take n found) heads → StepsNoted n t out count out′ → 2 * count ≤ length steps
-      → StepsNoted n t steps count₂ steps′ → HierarchyLeft n t heads steps (Count count) heads′ steps′
-  hierarchy-done {found} {heads′} {out} {out′} {steps′} {count} {count₂} f many written (l, p, counted) room (l₂, p₂, noted) =
+      {found heads′ out listed steps′ : List ℕ} {count : ℕ} → Found n t found → n ≤ length heads
+      → heads′ ≡ over (take n found) heads → length out ≡ 8192 → StepsNoted n t out count listed → 2 * count ≤ length steps
+      → steps′ ≡ over (take (2 * count) listed) steps → HierarchyLeft n t heads steps (Count count) heads′ steps′
+  hierarchy-done {found} {heads′} {out} {listed} {steps′} {count} f many heads-written size (l, p, noted) room written =
       record {
         number = inr (fits, refl);
         place = refl;
         buffers = (
-          (take n found, heads-of f, written),
-          (l₂, p₂, counted .counted ∙ ap (λ (m : List Pair). length m) same, noted .written (omega (arith, length-bytes l₂, all))),
+          (take n found, heads-of f, heads-written),
+          (l, p, noted .counted, written ∙ ap (λ (w : List ℕ). over w steps) front),
         );
       }
     where
-      same : l ≡ l₂
-      same = lists-unique p p₂
+      all : length (bytesOf l) ≡ 2 * count
+      all = omega (arith, noted .counted, length-bytes l)
 
-      all : count ≡ length l₂
-      all = counted .counted ∙ ap (λ (m : List Pair). length m) same
+      front : take (2 * count) listed ≡ bytesOf l
+      front =
+          ap (λ (u : List ℕ). take (2 * count) u) (noted .written (omega (arith, all, size, steps-fit (f .ordered) (l, p, noted))))
+          ∙ take-at (bytesOf l) (drop (length (bytesOf l)) out) (2 * count) all
 
       fits : ¬ (TooShort (HeadsOf n t) heads ⊎ TooShort (StepBytes n t) steps)
       fits (inl (hs, h, short)) = omega (arith, h .size)
       fits (inr (w, h, short)) =
-          omega (arith, ap (λ (u : List ℕ). length u) (step-bytes-unique w (bytesOf l₂) h (l₂, p₂, refl)), length-bytes l₂, all)
+          omega (arith, ap (λ (u : List ℕ). length u) (step-bytes-unique w (bytesOf l) h (l, p, refl)), all)
 
 -- a climb from the head of a starts with no rung before it
 pub start-reached : {n : ℕ} {t heads : List ℕ} {a b : ℕ} → Found n t heads → HasLadder n t a b → Reached n t b (getD heads a 0) 0

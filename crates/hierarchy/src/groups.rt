@@ -9,13 +9,15 @@ use standing::refused;
 use standing::standing;
 use steps::find_heads;
 use steps::list_steps;
-use steps::write_heads;
+use steps::write_front;
 ghost use Rattle.promise.specs.Hierarchy.{HierarchyWritten};
 ghost use Rattle.steps.specs.Found.{Ordered};
 ghost use Rattle.hierarchy.specs.Owed.{HierarchyLeft};
 
-// The heads and the direct steps, where only 8 may still be due. The steps are counted before any byte is written, over an empty part of
-// their buffer.
+// Room for all direct steps of 128 classes, two bytes each.
+const MOST_STEPS: usize = 8192;
+
+// The heads and the direct steps, where only 8 may still be due. Both are worked out before any byte is written.
 fn write_hierarchy(n: usize, table: &[u8], heads: &mut [u8], steps: &mut [u8]) -> Wrote
     requires { ⌜ Ordered n (now table) ⌝ }
     ensures { λ r. ⌜ HierarchyLeft n (now (table .entry)) (now (heads .entry)) (now (steps .entry)) r
@@ -26,12 +28,13 @@ fn write_hierarchy(n: usize, table: &[u8], heads: &mut [u8], steps: &mut [u8]) -
     }
     let mut found: [u8; MOST_CLASSES] = [0; MOST_CLASSES];
     find_heads(n, table, &mut found[..]);
-    let count = list_steps(n, table, &found[..], &mut steps[..0]);
+    let mut listed: [u8; MOST_STEPS] = [0; MOST_STEPS];
+    let count = list_steps(n, table, &found[..], &mut listed[..]);
     if steps.len() < 2 * count {
         return refused(NO_ROOM);
     }
-    write_heads(n, &found[..], heads);
-    list_steps(n, table, &found[..], steps);
+    write_front(n, &found[..], heads);
+    write_front(2 * count, &listed[..], steps);
     Wrote::Count(count)
 }
 

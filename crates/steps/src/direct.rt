@@ -23,8 +23,7 @@ pub fn is_direct(n: usize, table: &[u8], heads: &[u8], thirds: &[bool], a: usize
     is_above(n, table, heads, a, b)
 }
 
-// Counts the direct steps. Each is written, two bytes, ordered by a and then b, if it fits: a buffer with room for all gets all, and an empty
-// one serves to count.
+// Counts the direct steps. Each is written, two bytes, ordered by a and then b, if it fits: a buffer with room for all gets all.
 pub fn list_steps(n: usize, table: &[u8], heads: &[u8], steps: &mut [u8]) -> usize
     requires { ⌜ Found n (now table) (now heads) ⌝ }
     ensures { λ r. ⌜ StepsNoted n (now (table .entry)) (now (steps .entry)) r (now (steps .exit)) ⌝ }

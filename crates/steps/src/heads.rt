@@ -58,12 +58,12 @@ pub fn is_head(heads: &[u8], a: usize) -> bool
     heads[a] as usize == a
 }
 
-// The first n heads, a byte each, are written.
-pub fn write_heads(n: usize, found: &[u8], heads: &mut [u8])
-    requires { ⌜ (n ≤ length (now found)) × (n ≤ length (now heads)) ⌝ }
-    ensures { λ _. ⌜ now (heads .exit) ≡ over (take n (now (found .entry))) (now (heads .entry)) ⌝ }
+// The first n bytes found are written to the front of a buffer.
+pub fn write_front(n: usize, found: &[u8], out: &mut [u8])
+    requires { ⌜ (n ≤ length (now found)) × (n ≤ length (now out)) ⌝ }
+    ensures { λ _. ⌜ now (out .exit) ≡ over (take n (now (found .entry))) (now (out .entry)) ⌝ }
 {
-    for a in 0..n {
-        heads[a] = found[a];
+    for i in 0..n {
+        out[i] = found[i];
     }
 }
