@@ -13,6 +13,7 @@ use lib.Dec.{eqb}
 use lib.ListN.{getD, set, length-set}
 use lib.Seq.{getD-set-same, getD-set-other}
 use Rattle.order.specs.Tables.{mark, SameRest}
+use Rattle.order.proofs.Bytes.{pair-below}
 use Rattle.promise.specs.declared.Session.{Session}
 use Rattle.promise.proofs.Standing.{Stands}
 use Rattle.marks.specs.Shape.{Shape, IndexOf}
@@ -41,6 +42,20 @@ index-column n a a′ b b′ hb hb′ e = omega (arith, ap (λ (k : ℕ). k * n)
 pub reads : {n a b i : ℕ} (t : List ℕ) → IndexOf n a b i → mark n t a b ≡ getD t i 0
 unfolding mark
 reads t at = ap (λ (k : ℕ). getD t k 0) (sym (at .is))
+
+-- the pairs of a row stand one after the other
+pub along : {n a i : ℕ} (b : ℕ) → a < n → b < n → IndexOf n a 0 i → IndexOf n a b (i + b)
+along {n} {a} {i} b ha hb at =
+    record { is = omega (arith, at .is); below = omega (arith, at .is, pair-below n a b ha hb) }
+
+pub row-below : {n a i b : ℕ} → IndexOf n a 0 i → a < n → b < n → i + b < n * n
+row-below {b = b} at ha hb = along b ha hb at .below
+
+pub row-reads : (t : List ℕ) (b : ℕ) {n a i : ℕ} → IndexOf n a 0 i → getD t (i + b) 0 ≡ mark n t a b
+unfolding mark
+row-reads t b {n} {a} {i} at =
+    let here : i + b ≡ a * n + b = omega (arith, at .is) in
+    ap (λ (k : ℕ). getD t k 0) here
 
 -- the test of that byte is a test of the mark
 pub tested : {n a b i : ℕ} (m : ℕ) (t : List ℕ) → IndexOf n a b i → (eqb (getD t i 0) m ≡ true) ↔ (mark n t a b ≡ m)

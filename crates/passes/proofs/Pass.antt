@@ -10,15 +10,10 @@ use native.Mathlib.Omega.{arith}
 use lib.ListN.{length, getD, set, length-set}
 use lib.Seq.{getD-set-same, getD-set-other, set-getD}
 use Rattle.order.specs.Tables.{mark}
-use Rattle.order.proofs.Bytes.{pair-below, rest-refl, rest-trans}
+use Rattle.order.proofs.Bytes.{rest-refl, rest-trans}
 use Rattle.marks.specs.Shape.{Shape, IndexOf}
 use Rattle.marks.proofs.Shape.{stored, rest-store}
 use Rattle.passes.specs.Marked.{Flagged, FlagsOf, Becomes, Marked}
-
--- the pairs of a row stand one after the other
-pub along : {n a i : ℕ} (b : ℕ) → a < n → b < n → IndexOf n a 0 i → IndexOf n a b (i + b)
-along {n} {a} {i} b ha hb at =
-    record { is = omega (arith, at .is); below = omega (arith, at .is, pair-below n a b ha hb) }
 
 -- the flags of the classes below k are set as P says
 pub record Gathered (n : ℕ) (P : ℕ → Type 0) (k : ℕ) (flags : List Bool) : Type 0 where

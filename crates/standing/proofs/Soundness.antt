@@ -1,6 +1,6 @@
 -- What the soundness test looks at is soundness: small marks, a yes diagonal, and for each pair the rows of its two classes.
 -- Assumes nothing.
-use mathlib.Core.Path.{_≡_, refl, ap}
+use mathlib.Core.Path.{_≡_, refl}
 use mathlib.Core.Logic.{_↔_, _≢_}
 use mathlib.Core.Bool.{Bool, true, false}
 use mathlib.Core.List.{List}
@@ -9,7 +9,6 @@ use native.Mathlib.Omega.{arith}
 use lib.ListN.{getD}
 use Rattle.order.specs.Tables.{mark, Sound}
 use Rattle.order.proofs.Bytes.{pair-below, pair-at}
-use Rattle.marks.specs.Shape.{IndexOf}
 use Rattle.standing.specs.Soundness.{SmallMarks, DiagonalYes, RowsAgree, PairStands}
 
 module _ {n : ℕ} {t : List ℕ} where
@@ -58,16 +57,6 @@ module _ {n : ℕ} {t : List ℕ} where
       -- a mark that is neither yes nor open is no
       which : {m : ℕ} → m ≤ 2 → ¬ (m ≡ 1) → ¬ (m ≡ 0) → m ≡ 2
       which small not-yes not-open = omega arith
-
--- the bytes from the start of a row on are the marks of that row
-pub row-below : {n a i c : ℕ} → IndexOf n a 0 i → a < n → c < n → i + c < n * n
-row-below {n} {a} {i} {c} h ha hc = omega (arith, h .is, pair-below n a c ha hc)
-
-pub row-reads : (t : List ℕ) (c : ℕ) {n a i : ℕ} → IndexOf n a 0 i → getD t (i + c) 0 ≡ mark n t a c
-unfolding mark
-row-reads t c {n} {a} {i} h =
-    let here : i + c ≡ a * n + c = omega (arith, h .is) in
-    ap (λ (k : ℕ). getD t k 0) here
 
 module _ {n : ℕ} {t : List ℕ} {a b : ℕ} {r : Bool} where
   -- the rows decide about a yes pair, and about an open one; of a no pair nothing is asked

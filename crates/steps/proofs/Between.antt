@@ -1,6 +1,6 @@
 -- Third heads, found row by row: the flags of the classes above each head above a go up.
 -- Assumes nothing.
-use mathlib.Core.Path.{_≡_, refl, sym, _∙_, ap}
+use mathlib.Core.Path.{_≡_, refl, sym, _∙_}
 use mathlib.Core.Logic.{_↔_, _≢_, _⊎_, inl, inr, ⊎-elim}
 use mathlib.Core.Bool.{Bool, true, false, _||_, false≢true}
 use mathlib.Core.List.{List}
@@ -13,22 +13,12 @@ use lib.Dec.{eqb}
 use lib.ListN.{length, getD, set, length-set, replicate, length-replicate, getD-replicate}
 use lib.Seq.{getD-set-same, getD-set-other}
 use Rattle.order.specs.Tables.{mark}
-use Rattle.order.proofs.Bytes.{pair-below}
 use Rattle.promise.specs.Hierarchy.{Under, Third, Head, Direct}
 use Rattle.promise.proofs.Hierarchy.{direct?}
 use Rattle.marks.specs.Shape.{IndexOf}
+use Rattle.marks.proofs.Shape.{row-reads}
 use Rattle.marks.proofs.Noting.{SoFar, miss, row-end}
 use Rattle.steps.specs.Between.{HeadAbove, RowAdded, ThirdAdded, NoneYet, ThirdsOf}
-
--- the bytes from the start of a row on are the marks of that row
-pub row-below : {n a i c : ℕ} → IndexOf n a 0 i → a < n → c < n → i + c < n * n
-row-below {n} {a} {i} {c} h ha hc = omega (arith, h .is, pair-below n a c ha hc)
-
-row-reads : (t : List ℕ) (c : ℕ) {n a i : ℕ} → IndexOf n a 0 i → getD t (i + c) 0 ≡ mark n t a c
-unfolding mark
-row-reads t c {n} {a} {i} h =
-    let here : i + c ≡ a * n + c = omega (arith, h .is) in
-    ap (λ (k : ℕ). getD t k 0) here
 
 -- the row of c is added below k, and from k on no flag is changed
 pub record Adding (n : ℕ) (t : List ℕ) (c : ℕ) (flags₀ flags : List Bool) (k : ℕ) : Type 0 where

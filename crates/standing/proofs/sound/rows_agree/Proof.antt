@@ -5,7 +5,7 @@ use native.Mathlib.Omega.{arith}
 use Rattle.order.specs.Tables.{mark}
 use Rattle.standing.specs.Soundness.{Asks}
 use Rattle.standing.proofs.Clear.{Clear, clear-none, clear-more, clear-all, against-clear}
-use Rattle.standing.proofs.Soundness.{row-below, row-reads}
+use Rattle.marks.proofs.Shape.{row-below, row-reads}
 use Rattle.standing.proofs.sound.rows_agree.Statement.{statement}
 use Rattle.standing.proofs.sound.rows_agree.Tie as tie
 

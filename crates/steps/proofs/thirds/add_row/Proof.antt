@@ -2,7 +2,8 @@
 -- Assumes nothing.
 use Prim.Native.Nat.{_-_}
 use native.Mathlib.Omega.{arith}
-use Rattle.steps.proofs.Between.{row-below, Adding, adding-none, adding-more, adding-all}
+use Rattle.marks.proofs.Shape.{row-below}
+use Rattle.steps.proofs.Between.{Adding, adding-none, adding-more, adding-all}
 use Rattle.steps.proofs.thirds.add_row.Statement.{statement}
 use Rattle.steps.proofs.thirds.add_row.Tie as tie
 
