@@ -13,7 +13,8 @@ use Rattle.order.specs.Tables.{mark}
 use Rattle.order.proofs.Bytes.{rest-refl, rest-trans}
 use Rattle.marks.specs.Shape.{Shape, IndexOf}
 use Rattle.marks.proofs.Shape.{stored, rest-store}
-use Rattle.passes.specs.Marked.{Flagged, FlagsOf, Becomes, Marked}
+use Rattle.promise.specs.Flags.{Flagged}
+use Rattle.passes.specs.Marked.{FlagsOf, Becomes, Marked}
 
 -- the flags of the classes below k are set as P says
 pub record Gathered (n : ℕ) (P : ℕ → Type 0) (k : ℕ) (flags : List Bool) : Type 0 where

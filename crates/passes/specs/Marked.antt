@@ -2,15 +2,11 @@
 -- Assumes nothing.
 use mathlib.Core.Path.{_≡_}
 use mathlib.Core.Logic.{_↔_, _⊎_}
-use mathlib.Core.Bool.{Bool, true, false}
+use mathlib.Core.Bool.{Bool}
 use mathlib.Core.List.{List}
 use Prim.Native.Nat.{ℕ, _<_}
-use lib.ListN.{getD}
 use Rattle.order.specs.Tables.{mark, SameRest}
-
--- the flag of x is set
-abbrev pub Flagged : List Bool → ℕ → Type 0
-Flagged flags x = getD flags x false ≡ true
+use Rattle.promise.specs.Flags.{Flagged}
 
 -- of the classes below n, those of P are flagged
 pub record FlagsOf (n : ℕ) (P : ℕ → Type 0) (flags : List Bool) : Type 0 where

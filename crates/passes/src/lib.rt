@@ -11,7 +11,8 @@ ghost use mathlib.Core.Path.{_≡_};
 ghost use Prim.Native.Nat.{_<_};
 ghost use Rattle.order.specs.Facts.{under, notUnder};
 ghost use Rattle.marks.specs.Shape.{Shape};
-ghost use Rattle.passes.specs.Marked.{Flagged, Marked};
+ghost use Rattle.promise.specs.Flags.{Flagged};
+ghost use Rattle.passes.specs.Marked.{Marked};
 ghost use Rattle.passes.specs.Taken.{Takes, TakenIn};
 
 // (x, y) becomes v for every flagged y. Each byte of the row is stored, changed or not: a loop without branches becomes vector code.
@@ -29,7 +30,13 @@ fn mark_row(n: usize, table: &mut [u8], x: usize, ys: &[bool; MOST_CLASSES], v: 
 }
 
 // (x, y) becomes v for every flagged x and every flagged y.
-fn spread(n: usize, table: &mut [u8], xs: &[bool; MOST_CLASSES], ys: &[bool; MOST_CLASSES], v: u8)
+pub fn spread(
+    n: usize,
+    table: &mut [u8],
+    xs: &[bool; MOST_CLASSES],
+    ys: &[bool; MOST_CLASSES],
+    v: u8,
+)
     requires { ⌜ Shape n (now table) ⌝ }
     ensures { λ _. ⌜ Marked n (λ a b. Flagged (now (xs .entry)) a × Flagged (now (ys .entry)) b) v
         (now (table .entry)) (now (table .exit)) ⌝ }

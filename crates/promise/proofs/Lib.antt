@@ -1,8 +1,13 @@
+pub mod Flags
 pub mod Standing
 pub mod Replies
 pub mod Fresh
+pub mod Taking
 pub mod Tell
+pub mod Clips
 pub mod Runs
+pub mod AnyOrder
+pub mod OneByOne
 pub mod Next
 pub mod Buffers
 pub mod Hierarchy

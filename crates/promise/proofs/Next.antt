@@ -24,7 +24,8 @@ use Rattle.promise.specs.Refusals.{standing}
 use Rattle.promise.specs.Tell.{Kind, adds, tellRefusals, Answered}
 use Rattle.promise.specs.Next.{numberOf, placeOf, FirstOpen, NoneOpen, Says, Asked, Rounds}
 use Rattle.promise.proofs.Standing.{Stands, standing-passed, stands-first, standing-there}
-use Rattle.promise.proofs.Tell.{tell-opens, tell-keeps}
+use Rattle.promise.proofs.Taking.{leaves-keeps}
+use Rattle.promise.proofs.Tell.{tell-opens, tell-leaves}
 
 in-order : (a b c d : ℕ) → Before (a, b) (c, d) ⊎ Before (c, d) (a, b) ⊎ ((a ≡ c) × (b ≡ d))
 in-order a b c d = rows (decLt a c) (decLt c a) (decLt b d) (decLt d b)
@@ -132,7 +133,7 @@ rounds-bounded :
 rounds-bounded st Rounds.none = (st, refl, omega arith)
 rounds-bounded {k} {s} {s′} {t} {t′} st (Rounds.round {k = j} {a = a} {b = b} {v = v} {t₁ = t₁} {r = r} q h later) =
     let e = asked-accepted q h in
-    let i = rounds-bounded (tell-keeps st h e) later in
+    let i = rounds-bounded (leaves-keeps (tell-leaves h e) st) later in
     let o = tell-opens h 0 e in
     let one : adds Kind.answer 0 (mark (s .classes) t a b) ≡ 1 = ap (adds Kind.answer 0) (q .says .is-open) in
     let le : j + opens (s .classes) t′ ≤ opens (s .classes) t₁ =

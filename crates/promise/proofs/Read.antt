@@ -12,13 +12,14 @@ use Rattle.promise.specs.declared.Session.{Session}
 use Rattle.promise.specs.declared.Reply.{Reply}
 use Rattle.promise.specs.Sessions.{noSession}
 use Rattle.promise.specs.Tell.{Kind, Took}
-use Rattle.promise.specs.Runs.{Made, Run, FromFresh}
+use Rattle.promise.specs.Runs.{Call, Makes, Made, Run, FromFresh}
 use Rattle.promise.specs.Book.{Item, itemsOf}
 use Rattle.promise.specs.Read.{factOf, Ends, Passes, Follows, BookRead}
 use Rattle.promise.proofs.Standing.{Stands, standing-passed}
 use Rattle.promise.proofs.Replies.{reply}
 use Rattle.promise.proofs.Fresh.{fresh-unique, fresh-there, fresh-stands, fresh-numbers}
-use Rattle.promise.proofs.Tell.{tell-unique, tell-there, tell-keeps, tell-numbers}
+use Rattle.promise.proofs.Taking.{leaves-keeps}
+use Rattle.promise.proofs.Tell.{tell-unique, tell-there, tell-leaves, tell-numbers}
 use Rattle.promise.proofs.Book.{FieldAt, SaidAt, Later, Whole, items-whole}
 
 -- one outcome at most
@@ -98,7 +99,7 @@ read-there book t = let q = follows-there (itemsOf book) noSession t in (q .0, q
 abbrev pub callsSaid : List Item → List Made
 callsSaid [] = []
 callsSaid (Item.begin p n ∷ items) = callsSaid items
-callsSaid (Item.said p kind a b v ∷ items) = record { kind = kind; fact = factOf a b v; number = 0 } ∷ callsSaid items
+callsSaid (Item.said p kind a b v ∷ items) = record { call = Call.take kind (factOf a b v); number = 0 } ∷ callsSaid items
 callsSaid (Item.fault p k ∷ items) = callsSaid items
 
 abbrev pub placeOf : Item → ℕ
@@ -210,17 +211,17 @@ follows-run book at (Item.said p kind a b v ∷ items) s t {r} {t′} l st (inr 
           (rw (took .replies .refused k .0, took .replies .refused k .1) at e),
     )
     go (inr (k, e)) later =
-        let x = later (tell-keeps st took k) e in (λ ne. omega (arith, x .0 ne, l .0), longer (x .0) (x .1))
+        let x = later (leaves-keeps (tell-leaves took k) st) e in (λ ne. omega (arith, x .0 ne, l .0), longer (x .0) (x .1))
       where
         longer :
             (r .number ≢ 0 → suc p ≤ r .place) → Followed book items (h .1 .session) (h .2) r t′
             → Followed book (item ∷ items) s t r t′
-        longer le (Followed.all z place run) = Followed.all z place (Run.call took k run)
+        longer le (Followed.all z place run) = Followed.all z place (Run.call (Makes.took took) k run)
         longer le (Followed.some z run stop) =
             Followed.some z
             (subst (λ (l : List Item). Run s t (callsSaid l) (r .session) t′)
             (sym (one-before item (r .place) items (omega (arith, le z))))
-            (Run.call took k run))
+            (Run.call (Makes.took took) k run))
             stop
 
 -- What a reading comes to. No class count was accepted, and table and session show it; or a run from fresh for the book's class count,

@@ -1,4 +1,4 @@
--- Demand 3, over any run of tells and answers, refused ones among them; and the tally as a number read off the history.
+-- Demand 3, over any run of tells, answers and clips, refused ones among them; and the tally as a number read off the history.
 -- Assumes nothing.
 use mathlib.Core.Path.{_≡_, refl, _∙_, ap, subst, subst⁻¹}
 use mathlib.Core.Logic.{_↔_, _≢_, inl, inr}
@@ -7,20 +7,21 @@ use Prim.Native.Nat.{ℕ, zero, suc, _+_, _*_, _≤_, _<_}
 use native.Mathlib.Decide.{ℕ-discrete}
 use native.Mathlib.Omega.{arith}
 use lib.ListN.{length}
-use Rattle.order.specs.Facts.{Fact, Facts, Listed, _with_, _⊆_, Below}
-use Rattle.order.specs.Tables.{mark, TableOf, SameRest, opens}
+use Rattle.order.specs.Facts.{Facts, _and_, _⊆_, Below}
+use Rattle.order.specs.Tables.{mark, TableOf, SameMarks, SameRest, opens}
 use Rattle.order.specs.Orders.{Impossible, Exact}
-use Rattle.order.proofs.Sets.{_and_, entails-subset, with-listed, listed-with}
-use Rattle.order.proofs.Tables.{table-of-equals, settled-stays}
+use Rattle.order.proofs.Sets.{entails-subset, and-none, none-and, and-left, and-right}
+use Rattle.order.proofs.Tables.{table-unique, table-of-equals, settled-stays}
 use Rattle.order.proofs.Bytes.{rest-refl, rest-trans}
 use Rattle.order.proofs.Exactness.{exact}
 use Rattle.promise.specs.declared.Session.{Session}
 use Rattle.promise.specs.declared.Reply.{Reply}
-use Rattle.promise.specs.Tell.{Kind, Took}
-use Rattle.promise.specs.Runs.{StandsFor, Made, Run, FromFresh, Call, callsOf, unlessRefused, acceptedFacts, testsIn}
+use Rattle.promise.specs.Runs.{StandsFor, Call, Makes, SaidBy, Fits, addedBy, Made, Run, FromFresh, callsOf, UnlessRefused, Accepted, testsIn}
 use Rattle.promise.proofs.Standing.{standing-passed}
 use Rattle.promise.proofs.Fresh.{fresh-stands, fresh-there, fresh-accepted}
-use Rattle.promise.proofs.Tell.{tell-unique, tell-there, tell-opens, tell-stands, tell-refused}
+use Rattle.promise.proofs.Taking.{Leaves, leaves-stands}
+use Rattle.promise.proofs.Tell.{tell-unique, tell-there, tell-opens, tell-leaves, tell-refused}
+use Rattle.promise.proofs.Clips.{clip-unique, clip-there, clip-session, clip-opens, clip-leaves, clip-refused}
 
 -- the same facts, said otherwise
 pub stands-equal : {S S′ : Facts} {s : Session} {t : List ℕ} → S ⊆ S′ → S′ ⊆ S → StandsFor S s t → StandsFor S′ s t
@@ -31,53 +32,105 @@ stands-equal i j st =
       stands = st .stands;
     }
 
--- the empty list adds no fact
-pub none-right : (S : Facts) → (S and Listed []) ⊆ S
-none-right S f (inl i) = i
-none-right S f (inr i) = absurd (List·Memᴰ·not-nil i)
+-- One call: its outcome is there and the only one, and what it leaves.
 
-pub none-left : (S : Facts) → (Listed [] and S) ⊆ S
-none-left S f (inl i) = absurd (List·Memᴰ·not-nil i)
-none-left S f (inr i) = i
+pub makes-unique :
+    {c : Call} {s : Session} {t : List ℕ} {r r₂ : Reply} {t′ t₂ : List ℕ} → Makes c s t r t′ → Makes c s t r₂ t₂
+    → (r ≡ r₂) × (t′ ≡ t₂)
+makes-unique (Makes.took h) (Makes.took h₂) = tell-unique h h₂
+makes-unique (Makes.clipped h) (Makes.clipped h₂) = clip-unique h h₂
+
+pub makes-there : (c : Call) (s : Session) (t : List ℕ) → (r : Reply) × (t′ : List ℕ) × Makes c s t r t′
+makes-there (Call.take kind f) s t = let q = tell-there kind s t f in (q .0, q .1, Makes.took (q .2))
+makes-there (Call.clip played) s t = let q = clip-there s t played in (q .0, q .1, Makes.clipped (q .2))
+
+pub makes-leaves :
+    {c : Call} {s : Session} {t : List ℕ} {r : Reply} {t′ : List ℕ} → Makes c s t r t′ → r .number ≡ 0
+    → Leaves (SaidBy (s .classes) c) s t (r .session) t′
+makes-leaves (Makes.took h) e = tell-leaves h e
+makes-leaves (Makes.clipped h) e = clip-leaves h e
+
+-- refused, it leaves all as it was; accepted, every byte from n*n on
+makes-refused :
+    {c : Call} {s : Session} {t : List ℕ} {r : Reply} {t′ : List ℕ} → Makes c s t r t′ → r .number ≢ 0
+    → (r .session ≡ s) × (t′ ≡ t)
+makes-refused (Makes.took h) = h .replies .refused
+makes-refused (Makes.clipped h) = h .replies .refused
+
+makes-rest :
+    {c : Call} {s : Session} {t : List ℕ} {r : Reply} {t′ : List ℕ} → Makes c s t r t′ → r .number ≡ 0
+    → SameRest (s .classes) t t′
+makes-rest (Makes.took h) = h .replies .rest
+makes-rest (Makes.clipped h) = h .replies .rest
+
+-- the class count stays, the tally grows by what the call adds, and that and what stays open is no more than was open
+makes-opens :
+    {c : Call} {s : Session} {t : List ℕ} {r : Reply} {t′ : List ℕ} → Makes c s t r t′ → (k : ℕ) → r .number ≡ k
+    → (r .session .classes ≡ s .classes) × (r .session .tests ≡ s .tests + addedBy c k s t)
+    × (addedBy c k s t + opens (s .classes) t′ ≤ opens (s .classes) t)
+makes-opens (Makes.took h) k e = tell-opens h k e
+makes-opens (Makes.clipped h) k e =
+    let o = clip-opens h in
+    rw (clip-session h) (refl, omega arith, omega arith)
+
+-- "A fact on two classes below the count is refused as contradictory exactly when no order agrees with it and those accepted before", a
+-- clip "exactly when no order agrees with all of them and the facts accepted before"; and neither is refused for another reason
+pub makes-contradicted :
+    (c : Call) {S : Facts} {s : Session} {t : List ℕ} {r : Reply} {t′ : List ℕ} → StandsFor S s t → Fits (s .classes) c
+    → Makes c s t r t′
+    → ((r .number ≢ 0) ↔ Impossible (s .classes) (S and SaidBy (s .classes) c)) × (r .number ≢ 0 → r .number ≡ 6)
+makes-contradicted (Call.take kind f) st b (Makes.took h) = tell-refused st b h
+makes-contradicted (Call.clip played) st b (Makes.clipped h) = clip-refused st b h
 
 -- what a run leaves stands for the facts it started from and those accepted
 pub run-stands :
-    {S : Facts} {s s′ : Session} {t t′ : List ℕ} {calls : List Made} → StandsFor S s t → Run s t calls s′ t′
-    → StandsFor (S and Listed (acceptedFacts calls)) s′ t′
-run-stands {S} st Run.stop = stands-equal (λ f m. inl m) (none-right S) st
-run-stands {S} {s} {s′} {t} {t′} st (Run.call {m = m} {later = later} {t₁ = t₁} {r = r} h e run) =
-    go (m .number) e (λ T st₁. run-stands {S = T} st₁ run)
+    {n : ℕ} {S : Facts} {s s′ : Session} {t t′ : List ℕ} {made : List Made} → s .classes ≡ n → StandsFor S s t
+    → Run s t made s′ t′ → StandsFor (S and Accepted n made) s′ t′
+run-stands {S = S} c st Run.stop = stands-equal (λ f m. inl m) (and-none S (λ f i. i)) st
+run-stands {n} {S} {s} {s′} {t} {t′} c st (Run.call {m = m} {later = later} {t₁ = t₁} {r = r} h e run) =
+    go (m .number) e (λ T q st₁. run-stands {n = n} {S = T} q st₁ run)
   where
     go :
         (k : ℕ) → r .number ≡ k
-        → ((T : Facts) → StandsFor T (r .session) t₁ → StandsFor (T and Listed (acceptedFacts later)) s′ t′)
-        → StandsFor (S and Listed (unlessRefused k (m .fact) (acceptedFacts later))) s′ t′
+        → ((T : Facts) → r .session .classes ≡ n → StandsFor T (r .session) t₁ → StandsFor (T and Accepted n later) s′ t′)
+        → StandsFor (S and (UnlessRefused k (SaidBy n (m .call)) and Accepted n later)) s′ t′
     go zero z next =
-        stands-equal (listed-with S (m .fact) (acceptedFacts later)) (with-listed S (m .fact) (acceptedFacts later))
-        (next (S with m .fact) (tell-stands st h z))
+        let l = makes-leaves h z in
+        stands-equal (and-left S (SaidBy n (m .call)) (Accepted n later)) (and-right S (SaidBy n (m .call)) (Accepted n later))
+        (next (S and SaidBy n (m .call)) (l .classes ∙ c)
+        (subst (λ (k : ℕ). StandsFor (S and SaidBy k (m .call)) (r .session) t₁) c (leaves-stands l st)))
     go (suc k) z next =
-        let q = h .replies .refused (λ y. omega arith) in
-        next S (rw (q .0, q .1) st)
+        let q = makes-refused h (λ y. omega arith) in
+        stands-equal none-more none-said (next S (rw (q .0) c) (rw (q .0, q .1) st))
+      where
+        none-more : (S and Accepted n later) ⊆ (S and (UnlessRefused (suc k) (SaidBy n (m .call)) and Accepted n later))
+        none-more f (inl i) = inl i
+        none-more f (inr i) = inr (inr i)
+
+        none-said : (S and (UnlessRefused (suc k) (SaidBy n (m .call)) and Accepted n later)) ⊆ (S and Accepted n later)
+        none-said f (inl i) = inl i
+        none-said f (inr i) = inr (none-and (Accepted n later) (λ g z. z) f i)
 
 -- and one from fresh for the facts accepted
 pub fresh-run-stands :
-    {n : ℕ} {t : List ℕ} {calls : List Made} {s′ : Session} {t′ : List ℕ} → FromFresh n t calls s′ t′
-    → StandsFor (Listed (acceptedFacts calls)) s′ t′
-fresh-run-stands {calls = calls} h =
-    stands-equal (none-left (Listed (acceptedFacts calls))) (λ f m. inr m)
-    (run-stands (fresh-stands (h .began) (h .accepted)) (h .run))
+    {n : ℕ} {t : List ℕ} {made : List Made} {s′ : Session} {t′ : List ℕ} → FromFresh n t made s′ t′
+    → StandsFor (Accepted n made) s′ t′
+fresh-run-stands {n} {made = made} h =
+    stands-equal (none-and (Accepted n made) (λ f i. List·Memᴰ·not-nil i)) (λ f m. inr m)
+    (run-stands (ap (λ (s : Session). s .classes) (h .began .replies .session (h .accepted)))
+    (fresh-stands (h .began) (h .accepted)) (h .run))
 
 -- the class count stays; the tally grows by the tests of the history; "From any moment on, answers counted since plus pairs still open
 -- never exceed the pairs open at that moment"
 pub run-tests :
-    {s s′ : Session} {t t′ : List ℕ} {calls : List Made} (run : Run s t calls s′ t′)
+    {s s′ : Session} {t t′ : List ℕ} {made : List Made} (run : Run s t made s′ t′)
     → (s′ .classes ≡ s .classes) × (s′ .tests ≡ s .tests + testsIn run)
     × (testsIn run + opens (s .classes) t′ ≤ opens (s .classes) t)
 unfolding testsIn
 run-tests Run.stop = (refl, omega arith, omega arith)
 run-tests {s} {s′} {t} {t′} (Run.call {m = m} {t₁ = t₁} {r = r} h e run) =
     let i = run-tests run in
-    let o = tell-opens h (m .number) e in
+    let o = makes-opens h (m .number) e in
     let le : testsIn run + opens (s .classes) t′ ≤ opens (s .classes) t₁ =
     subst (λ (n : ℕ). testsIn run + opens n t′ ≤ opens n t₁) (o .0) (i .2)
     in
@@ -85,16 +138,16 @@ run-tests {s} {s′} {t} {t′} (Run.call {m = m} {t₁ = t₁} {r = r} h e run)
 
 -- no byte from n*n on is written, and the length stays
 pub run-rest :
-    {s s′ : Session} {t t′ : List ℕ} {calls : List Made} → Run s t calls s′ t′ → SameRest (s .classes) t t′
+    {s s′ : Session} {t t′ : List ℕ} {made : List Made} → Run s t made s′ t′ → SameRest (s .classes) t t′
 run-rest {t = t} Run.stop = rest-refl t
 run-rest {s} {s′} {t} {t′} (Run.call {m = m} {t₁ = t₁} {r = r} h e run) = go (ℕ-discrete (r .number) 0) (run-rest run)
   where
     go : Dec (r .number ≡ 0) → SameRest (r .session .classes) t₁ t′ → SameRest (s .classes) t t′
-    go (yes z) later = rest-trans (h .replies .rest z) (rw (tell-opens h 0 z .0) at later)
-    go (no z) later = let q = h .replies .refused z in rw (q .0, q .1) at later
+    go (yes z) later = rest-trans (makes-rest h z) (rw (makes-opens h 0 z .0) at later)
+    go (no z) later = let q = makes-refused h z in rw (q .0, q .1) at later
 
 -- A run from fresh: demand 3 for its class count.
-module _ {n : ℕ} {t : List ℕ} {calls : List Made} {s′ : Session} {t′ : List ℕ} (h : FromFresh n t calls s′ t′) where
+module _ {n : ℕ} {t : List ℕ} {made : List Made} {s′ : Session} {t′ : List ℕ} (h : FromFresh n t made s′ t′) where
   pub fresh-run-classes : s′ .classes ≡ n
   fresh-run-classes = run-tests (h .run) .0 ∙ ap (λ (s : Session). s .classes) (h .began .replies .session (h .accepted))
 
@@ -115,13 +168,13 @@ module _ {n : ℕ} {t : List ℕ} {calls : List Made} {s′ : Session} {t′ : L
       let e : h .reply .session .classes ≡ n = ap (λ (s : Session). s .classes) (h .began .replies .session (h .accepted)) in
       rest-trans (h .began .replies .rest (h .accepted)) (rw e at (run-rest (h .run)))
 
-  pub fresh-run-table : TableOf n (Listed (acceptedFacts calls)) t′
+  pub fresh-run-table : TableOf n (Accepted n made) t′
   fresh-run-table =
-      subst (λ (k : ℕ). TableOf k (Listed (acceptedFacts calls)) t′) fresh-run-classes (fresh-run-stands h .table)
+      subst (λ (k : ℕ). TableOf k (Accepted n made) t′) fresh-run-classes (fresh-run-stands h .table)
 
   -- "After each call a pair is yes exactly when every order agreeing with all accepted facts has it, no exactly when none has it, open
   -- otherwise."
-  pub fresh-run-exact : (a b : ℕ) → a < n → b < n → Exact n (Listed (acceptedFacts calls)) t′ a b
+  pub fresh-run-exact : (a b : ℕ) → a < n → b < n → Exact n (Accepted n made) t′ a b
   fresh-run-exact =
       exact
       (λ f m.
@@ -129,23 +182,32 @@ module _ {n : ℕ} {t : List ℕ} {calls : List Made} {s′ : Session} {t′ : L
       fresh-run-table
 
   -- "A fact on two classes below the count is refused as contradictory exactly when no order agrees with it and those accepted before."
+  -- And a clip "is refused as contradictory exactly when no order agrees with all of them and the facts accepted before".
   pub fresh-run-refused :
-      {kind : Kind} {f : Fact} {r : Reply} {t″ : List ℕ} → Below n f → Took kind s′ t′ f r t″
-      → ((r .number ≢ 0) ↔ Impossible n (Listed (acceptedFacts calls) with f)) × (r .number ≢ 0 → r .number ≡ 6)
-  fresh-run-refused {kind} {f} {r} {t″} b took =
+      {c : Call} {r : Reply} {t″ : List ℕ} → Fits n c → Makes c s′ t′ r t″
+      → ((r .number ≢ 0) ↔ Impossible n (Accepted n made and SaidBy n c)) × (r .number ≢ 0 → r .number ≡ 6)
+  fresh-run-refused {c} {r} {t″} b makes =
       subst
       (λ (k : ℕ).
-      ((r .number ≢ 0) ↔ Impossible k (Listed (acceptedFacts calls) with f)) × (r .number ≢ 0 → r .number ≡ 6))
+      ((r .number ≢ 0) ↔ Impossible k (Accepted n made and SaidBy k c)) × (r .number ≢ 0 → r .number ≡ 6))
       fresh-run-classes
-      (tell-refused (fresh-run-stands h) (rw fresh-run-classes b) took)
+      (makes-contradicted c (fresh-run-stands h) (rw fresh-run-classes b) makes)
 
 -- "Hence, if one list of facts is contained in another and both are accepted whole, nothing settled by the first reads differently
 -- under the second."
 pub fresh-runs-agree :
-    {n : ℕ} {t t₂ : List ℕ} {calls calls₂ : List Made} {s s₂ : Session} {u u₂ : List ℕ} → FromFresh n t calls s u
-    → FromFresh n t₂ calls₂ s₂ u₂ → Listed (acceptedFacts calls) ⊆ Listed (acceptedFacts calls₂) → (a b : ℕ) → a < n
-    → b < n → mark n u a b ≢ 0 → mark n u₂ a b ≡ mark n u a b
+    {n : ℕ} {t t₂ : List ℕ} {made made₂ : List Made} {s s₂ : Session} {u u₂ : List ℕ} → FromFresh n t made s u
+    → FromFresh n t₂ made₂ s₂ u₂ → Accepted n made ⊆ Accepted n made₂ → (a b : ℕ) → a < n → b < n
+    → mark n u a b ≢ 0 → mark n u₂ a b ≡ mark n u a b
 fresh-runs-agree h h₂ i = settled-stays i (fresh-run-table h) (fresh-run-table h₂)
+
+-- The same facts accepted, in whatever order and by whatever calls: the same marks.
+pub fresh-runs-same :
+    {n : ℕ} {t t₂ : List ℕ} {made made₂ : List Made} {s s₂ : Session} {u u₂ : List ℕ} → FromFresh n t made s u
+    → FromFresh n t₂ made₂ s₂ u₂ → Accepted n made ⊆ Accepted n made₂ → Accepted n made₂ ⊆ Accepted n made
+    → SameMarks n u u₂
+fresh-runs-same h h₂ i j =
+    table-unique (table-of-equals (entails-subset j) (entails-subset i) (fresh-run-table h)) (fresh-run-table h₂)
 
 -- A run is any list of calls: it can be cut at any moment and led on by one call more, and every list of calls has one.
 
@@ -158,23 +220,23 @@ run-cut (m ∷ before) since (Run.call h e run) =
 
 pub run-then :
     {made : List Made} (m : Made) {s s₁ : Session} {t t₁ t₂ : List ℕ} {r : Reply} → Run s t made s₁ t₁
-    → Took (m .kind) s₁ t₁ (m .fact) r t₂ → r .number ≡ m .number
+    → Makes (m .call) s₁ t₁ r t₂ → r .number ≡ m .number
     → Run s t (made ++ m ∷ []) (r .session) t₂
-run-then m Run.stop took e = Run.call took e Run.stop
-run-then m (Run.call h same run) took e = Run.call h same (run-then m run took e)
+run-then m Run.stop makes e = Run.call makes e Run.stop
+run-then m (Run.call h same run) makes e = Run.call h same (run-then m run makes e)
 
-pub calls-then : (made : List Made) (m : Made) → callsOf (made ++ m ∷ []) ≡ callsOf made ++ (m .kind, m .fact) ∷ []
+pub calls-then : (made : List Made) (m : Made) → callsOf (made ++ m ∷ []) ≡ callsOf made ++ m .call ∷ []
 calls-then [] m = refl
-calls-then (first ∷ made) m = ap (λ (l : List Call). (first .kind, first .fact) ∷ l) (calls-then made m)
+calls-then (first ∷ made) m = ap (λ (l : List Call). first .call ∷ l) (calls-then made m)
 
 pub run-there :
     (calls : List Call) (s : Session) (t : List ℕ)
     → (made : List Made) × (s′ : Session) × (t′ : List ℕ) × Run s t made s′ t′ × (callsOf made ≡ calls)
 run-there [] s t = ([], s, t, Run.stop, refl)
 run-there (c ∷ calls) s t =
-    let q = tell-there (c .0) s t (c .1) in
+    let q = makes-there c s t in
     let later = run-there calls (q .0 .session) (q .1) in (
-      record { kind = c .0; fact = c .1; number = q .0 .number } ∷ later .0,
+      record { call = c; number = q .0 .number } ∷ later .0,
       later .1,
       later .2,
       Run.call (q .2) refl (later .3),
@@ -201,11 +263,12 @@ fresh-run-there calls n t some few room =
       x .4,
     )
 
-abbrev firstOr : Call → List Call → Call
+-- the first call of a list, and those after it
+abbrev pub firstOr : Call → List Call → Call
 firstOr c [] = c
 firstOr _ (c ∷ calls) = c
 
-abbrev rest : List Call → List Call
+abbrev pub rest : List Call → List Call
 rest [] = []
 rest (c ∷ calls) = calls
 
@@ -218,8 +281,8 @@ run-unique Run.stop (Run.call h same run) e = absurd (omega (arith, ap length e)
 run-unique (Run.call h same run) Run.stop e = absurd (omega (arith, ap length e))
 run-unique {s = s} {s₂ = s₂} {t = t} {t₂ = t₂} (Run.call {m = m} {t₁ = u} {r = r} h same run)
     (Run.call {later = later₂} {t₁ = u₂} {r = r₂} h₂ same₂ run₂) e =
-    let first = ap (λ (calls : List Call). firstOr (m .kind, m .fact) calls) e in
-    let q = tell-unique h (subst⁻¹ (λ (c : Call). Took (c .0) s t (c .1) r₂ u₂) first h₂) in
+    let first = ap (λ (calls : List Call). firstOr (m .call) calls) e in
+    let q = makes-unique h (subst⁻¹ (λ (c : Call). Makes c s t r₂ u₂) first h₂) in
     let later : Run (r .session) u later₂ s₂ t₂ =
     subst⁻¹ (λ (x : Reply). Run (x .session) u later₂ s₂ t₂) (q .0)
     (subst⁻¹ (λ (v : List ℕ). Run (r₂ .session) v later₂ s₂ t₂) (q .1) run₂)

@@ -80,6 +80,16 @@ standing-refused own s t k (inr (p, inr (q, inl r))) ne = inr (p, inr (q, inl r)
 standing-refused own s t k (inr (p, inr (q, inr (r, inl v)))) ne = inr (p, inr (q, inr (r, inl v)))
 standing-refused own s t k (inr (p, inr (q, inr (r, inr (v, e))))) ne = absurd (ne e)
 
+-- other refusals of the call itself that give the same number
+pub standing-map :
+    (own other : List Condition) (s : Session) (t : List ℕ) {k : ℕ} → (First own k → First other k)
+    → First (standing s t own) k → First (standing s t other) k
+standing-map own other s t f (inl p) = inl p
+standing-map own other s t f (inr (p, inl q)) = inr (p, inl q)
+standing-map own other s t f (inr (p, inr (q, inl r))) = inr (p, inr (q, inl r))
+standing-map own other s t f (inr (p, inr (q, inr (r, inl v)))) = inr (p, inr (q, inr (r, inl v)))
+standing-map own other s t f (inr (p, inr (q, inr (r, inr (v, w))))) = inr (p, inr (q, inr (r, inr (v, f w))))
+
 pub first-stands :
     (own : List Condition) {s : Session} {t : List ℕ} {k : ℕ} → Stands s t → First own k → First (standing s t own) k
 first-stands own st h =

@@ -1,6 +1,7 @@
 -- Worked marks of document 01: a table of calls with what each gives, to be met by the definitions. P1 to P12 are the small proved set.
 -- Assumes nothing.
 use mathlib.Core.Path.{_≡_}
+use mathlib.Core.Bool.{Bool, true, false}
 use mathlib.Core.List.{List, [], _∷_}
 use Prim.Native.Nat.{ℕ, zero, suc}
 use Rattle.order.specs.Facts.{Fact, under, notUnder}
@@ -14,6 +15,7 @@ use Rattle.promise.specs.declared.Wrote.the-variants.{Count, Refused}
 use Rattle.promise.specs.Sessions.{started}
 use Rattle.promise.specs.Fresh.{Freshened}
 use Rattle.promise.specs.Tell.{Kind, Took}
+use Rattle.promise.specs.Clips.{Clipped}
 use Rattle.promise.specs.Next.{Asked}
 use Rattle.promise.specs.Hierarchy.{HierarchyWritten}
 use Rattle.promise.specs.Ladder.{LadderWritten}
@@ -24,6 +26,7 @@ use Rattle.promise.specs.Write.{BookWritten}
 pub data Row : Type 0 where
   fresh : (n : ℕ) (t : List ℕ) (r : Reply) (t′ : List ℕ) → Row
   took : (kind : Kind) (s : Session) (t : List ℕ) (f : Fact) (r : Reply) (t′ : List ℕ) → Row
+  clipped : (s : Session) (t : List ℕ) (played : List Bool) (r : Reply) (t′ : List ℕ) → Row
   next : (s : Session) (t : List ℕ) (q : Question) → Row
   hierarchy : (s : Session) (t heads steps : List ℕ) (r : Wrote) (heads′ steps′ : List ℕ) → Row
   ladder : (s : Session) (t : List ℕ) (a b : ℕ) (out : List ℕ) (r : Wrote) (out′ : List ℕ) → Row
@@ -34,6 +37,7 @@ pub data Row : Type 0 where
 abbrev pub Meets : Row → Type 0
 Meets (Row.fresh n t r t′) = Freshened n t r t′
 Meets (Row.took kind s t f r t′) = Took kind s t f r t′
+Meets (Row.clipped s t played r t′) = Clipped s t played r t′
 Meets (Row.next s t q) = Asked s t q
 Meets (Row.hierarchy s t heads steps r heads′ steps′) = HierarchyWritten s t heads steps r heads′ steps′
 Meets (Row.ladder s t a b out r out′) = LadderWritten s t a b out r out′
@@ -95,6 +99,16 @@ afterYes = 1 ∷ 1 ∷ 0 ∷ 0 ∷ 1 ∷ 0 ∷ 0 ∷ 0 ∷ 1 ∷ []
 -- the marks of 01's printed example without its last six bytes
 abbrev pub printed : List ℕ
 printed = 1 ∷ 1 ∷ 1 ∷ 0 ∷ 1 ∷ 1 ∷ 0 ∷ 1 ∷ 1 ∷ []
+
+-- "1 under 2" alone; two classes of three that played a clip, and the first alone
+abbrev pub oneUnderTwo : List ℕ
+oneUnderTwo = 1 ∷ 0 ∷ 0 ∷ 0 ∷ 1 ∷ 1 ∷ 0 ∷ 0 ∷ 1 ∷ []
+
+abbrev pub firstTwo : List Bool
+firstTwo = true ∷ true ∷ false ∷ []
+
+abbrev pub firstOne : List Bool
+firstOne = true ∷ false ∷ false ∷ []
 
 -- buffers before a call
 abbrev pub nines : ℕ → List ℕ
@@ -232,4 +246,22 @@ rows =
     ∷ Row.hierarchy (started 2) oneOpen (nines 2) (nines 2) (Refused 7 0) (nines 2) (nines 2)
     ∷ Row.ladder (started 2) oneOpen 0 0 (nines 2) (Refused 7 0) (nines 2)
     ∷ Row.ladder four p11 0 2 (nines 2) (Count 2) (0 ∷ 2 ∷ [])
+    -- clips: the pairs of a member and a non-member, and no other; not counted
+    ∷ Row.clipped (three 0) afterYes firstTwo (accepted (three 0)) p4
+    ∷ Row.clipped (three 0) afterYes (false ∷ true ∷ []) (accepted (three 0)) (1 ∷ 1 ∷ 0 ∷ 2 ∷ 1 ∷ 2 ∷ 0 ∷ 0 ∷ 1 ∷ [])
+    ∷ Row.clipped (three 0) p2 firstOne (accepted (three 0)) (1 ∷ 2 ∷ 2 ∷ 0 ∷ 1 ∷ 0 ∷ 0 ∷ 0 ∷ 1 ∷ [])
+    ∷ Row.clipped (three 0) (1 ∷ 0 ∷ 0 ∷ 0 ∷ 1 ∷ 0 ∷ 0 ∷ 0 ∷ 1 ∷ 9 ∷ []) firstTwo (accepted (three 0)) (1 ∷ 0 ∷ 2 ∷ 0 ∷ 1 ∷ 2 ∷ 0 ∷ 0 ∷ 1 ∷ 9 ∷ [])
+    -- the clips of no class and of all
+    ∷ Row.clipped (three 0) afterYes [] (accepted (three 0)) afterYes
+    ∷ Row.clipped (three 0) afterYes (true ∷ true ∷ true ∷ []) (accepted (three 0)) afterYes
+    -- one no contradicts: the first, and a later one, when those before it are not written
+    ∷ Row.clipped (three 0) afterYes firstOne (refused 6 0 (three 0)) afterYes
+    ∷ Row.clipped (three 0) oneUnderTwo firstTwo (refused 6 0 (three 0)) oneUnderTwo
+    -- a class of n or more, and the order of refusals
+    ∷ Row.clipped (three 0) afterYes (true ∷ true ∷ false ∷ true ∷ []) (refused 5 0 (three 0)) afterYes
+    ∷ Row.clipped (three 0) afterYes (true ∷ false ∷ false ∷ true ∷ []) (refused 5 0 (three 0)) afterYes
+    ∷ Row.clipped (three 1) p2 (true ∷ false ∷ false ∷ true ∷ []) (refused 4 0 (three 1)) p2
+    ∷ Row.clipped (three 1) (1 ∷ 1 ∷ 0 ∷ 0 ∷ 1 ∷ 1 ∷ 0 ∷ 0 ∷ 1 ∷ []) firstOne (refused 3 0 (three 1)) (1 ∷ 1 ∷ 0 ∷ 0 ∷ 1 ∷ 1 ∷ 0 ∷ 0 ∷ 1 ∷ [])
+    ∷ Row.clipped (three 1) (nines 8) firstOne (refused 2 0 (three 1)) (nines 8)
+    ∷ Row.clipped (started 129) [] (true ∷ []) (refused 1 0 (started 129)) []
     ∷ []

@@ -2,20 +2,19 @@
 -- Assumes nothing.
 use mathlib.Core.Path.{_≡_, refl, sym, _∙_, ap}
 use mathlib.Core.Logic.{_↔_, _≢_, _⊎_, inl, inr}
-use mathlib.Core.List.{List, []}
+use mathlib.Core.List.{List}
 use Prim.Native.Nat.{ℕ, zero, suc, _+_, _*_, _≤_}
 use native.Mathlib.Decide.{ℕ-discrete, decLe}
 use native.Mathlib.Nat.{add-zero}
 use native.Mathlib.Omega.{arith}
 use lib.ListN.{length}
-use Rattle.order.specs.Facts.{Fact, Facts, _with_, Below}
+use Rattle.order.specs.Facts.{Fact, Facts, Only, _with_, Below}
 use Rattle.order.specs.Tables.{mark, TableOf, Marks, Contradicts, isOpen, opens, markAgainst}
 use Rattle.order.specs.Orders.{Impossible}
 use Rattle.order.specs.Refusals.{First}
 use Rattle.order.proofs.Decide.{either}
 use Rattle.order.proofs.Refusals.{stage}
-use Rattle.order.proofs.Sets.{within-with}
-use Rattle.order.proofs.Tables.{table-unique, table-sound, table-with, table-settled, sound-table, marks-within, mark-for-settled, for-not-against}
+use Rattle.order.proofs.Tables.{table-unique, table-settled, sound-table, marks-within, mark-for-settled, for-not-against}
 use Rattle.order.proofs.Exactness.{contradicts-exact}
 use Rattle.order.proofs.Bytes.{rest-refl, front-mark, front-rest}
 use Rattle.order.proofs.Counts.{opens-with}
@@ -28,6 +27,7 @@ use Rattle.promise.specs.Tell.{Kind, adds, tellRefusals, Took}
 use Rattle.promise.specs.Runs.{StandsFor}
 use Rattle.promise.specs.Buffers.{over}
 use Rattle.promise.proofs.Standing.{Stands, standing-passed, stands-first, first-stands, standing-there, below-of}
+use Rattle.promise.proofs.Taking.{Leaves, stands-of}
 use Rattle.promise.proofs.Replies.{reply, replies-unique, replies-there}
 
 -- the session after an accepted fact, and the marks of its table
@@ -150,36 +150,19 @@ tell-opens {kind} {s} {t} {f} {r} {t′} h (suc k) e =
     none Kind.tell = refl
     none Kind.answer = refl
 
--- an accepted fact leaves a session and a table that stand
-pub tell-keeps :
-    {kind : Kind} {s : Session} {t : List ℕ} {f : Fact} {r : Reply} {t′ : List ℕ} → Stands s t → Took kind s t f r t′
-    → r .number ≡ 0 → Stands (r .session) t′
-tell-keeps {kind} {s} {t} {f} {r} {t′} st h e =
-    rw (h .replies .session e)
-    (record {
-      some = st .some;
-      few = st .few;
-      room = omega (arith, st .room, h .replies .rest e .size);
-      sound = table-sound (h .replies .marks e);
-      count = omega (arith, st .count, tell-opens h 0 e .2);
-    })
-
-stands-of : {S : Facts} {s : Session} {t : List ℕ} → StandsFor S s t → Stands s t
-stands-of h = standing-passed [] (h .stands) .0
-
--- and a table that stands for one fact more
-pub tell-stands :
-    {kind : Kind} {S : Facts} {s : Session} {t : List ℕ} {f : Fact} {r : Reply} {t′ : List ℕ} → StandsFor S s t
-    → Took kind s t f r t′ → r .number ≡ 0 → StandsFor (S with f) (r .session) t′
-tell-stands {kind} {S} {s} {t} {f} {r} {t′} st h e =
+-- what an accepted fact leaves
+pub tell-leaves :
+    {kind : Kind} {s : Session} {t : List ℕ} {f : Fact} {r : Reply} {t′ : List ℕ} → Took kind s t f r t′ → r .number ≡ 0
+    → Leaves (Only f) s t (r .session) t′
+tell-leaves {s = s} {t = t} {f = f} h e =
+    let o = tell-opens h 0 e in
     record {
-      within = rw classes (within-with (st .within) (tell-passed s t f (rw e at (h .replies .number)) .1));
-      table = rw classes (table-with f (st .within) (st .table) .1 (h .replies .marks e));
-      stands = first-stands [] (tell-keeps (stands-of st) h e) refl;
+      within = λ g z. rw z (tell-passed s t f (rw e at (h .replies .number)) .1);
+      classes = o .0;
+      marks = h .replies .marks e;
+      size = h .replies .rest e .size;
+      count = omega (arith, o .1, o .2);
     }
-  where
-    classes : r .session .classes ≡ s .classes
-    classes = tell-opens h 0 e .0
 
 -- the refusals of a fact where none of 1 to 4 is due
 pub tell-numbers :

@@ -10,12 +10,14 @@ use Rattle.order.proofs.Refusals.{stage}
 use Rattle.order.proofs.Sound.{is, sound?, transitive?, pruned?}
 use Rattle.order.proofs.Taking.{yes-after-yes?, no-after-yes?, no-after-no?}
 use Rattle.order.proofs.Pairs.{rowTo, rowsTo}
+use Rattle.promise.proofs.Flags.{set?, flagged?}
 use Rattle.promise.proofs.Standing.{standing-there}
 use Rattle.promise.proofs.Replies.{replies-there}
 use Rattle.promise.specs.Book.{fieldFault, tellsFrom, answersFrom, itemsFrom}
 use Rattle.promise.proofs.Buffers.{too-short?, writes-there}
 use Rattle.promise.proofs.Fresh.{fresh-there}
 use Rattle.promise.proofs.Tell.{tell-there}
+use Rattle.promise.proofs.Clips.{beyond?, clip-contradicts?, clipped-no?, clip-there}
 use Rattle.promise.proofs.Next.{next-there, first-of}
 use Rattle.promise.proofs.Hierarchy.{under?, equal?, head-of?, head?, third?, direct?, head-there, list-there, heads-there, hierarchy-there}
 use Rattle.promise.proofs.Ladder.{number-there, above?, to-go, between, direct-there, rung-there, rungs-there, ladder-there, ladder-made, ladder-written-there}
@@ -27,6 +29,7 @@ use Rattle.promise.proofs.Table.{Row, Meets, AllMeet, rows}
 abbrev answered : Row → Row
 answered (Row.fresh n t r t′) = let q = fresh-there n t in Row.fresh n t (q .0) (q .1)
 answered (Row.took kind s t f r t′) = let q = tell-there kind s t f in Row.took kind s t f (q .0) (q .1)
+answered (Row.clipped s t played r t′) = let q = clip-there s t played in Row.clipped s t played (q .0) (q .1)
 answered (Row.next s t q) = Row.next s t (next-there s t .0)
 answered (Row.hierarchy s t heads steps r heads′ steps′) =
     let q = hierarchy-there s t heads steps in Row.hierarchy s t heads steps (q .0) (q .1) (q .2)
@@ -43,6 +46,7 @@ allAnswered (row ∷ later) = answered row ∷ allAnswered later
 meets : (row : Row) → Meets (answered row)
 meets (Row.fresh n t r t′) = fresh-there n t .2
 meets (Row.took kind s t f r t′) = tell-there kind s t f .2
+meets (Row.clipped s t played r t′) = clip-there s t played .2
 meets (Row.next s t q) = next-there s t .1
 meets (Row.hierarchy s t heads steps r heads′ steps′) = hierarchy-there s t heads steps .3
 meets (Row.ladder s t a b out r out′) = ladder-written-there s t a b out .2
@@ -56,7 +60,7 @@ all-meet (row ∷ later) = (meets row, all-meet later)
 
 -- what is there, computed, is the table itself
 computed : allAnswered rows ≡ rows
-unfolding mark opensTo decLt decLe ℕ-discrete both either implies negated as-well all-below some-below all-pairs least least-from stage is sound? transitive? pruned? yes-after-yes? no-after-yes? no-after-no? rowTo rowsTo standing-there replies-there fresh-there tell-there next-there first-of under? equal? head-of? head? third? direct? head-there list-there heads-there too-short? hierarchy-there number-there above? to-go between direct-there rung-there rungs-there ladder-there ladder-made writes-there ladder-written-there fieldFault tellsFrom answersFrom itemsFrom passes-there follows-there read-there off? book-there write-there
+unfolding mark opensTo decLt decLe ℕ-discrete both either implies negated as-well all-below some-below all-pairs least least-from stage is sound? transitive? pruned? yes-after-yes? no-after-yes? no-after-no? rowTo rowsTo standing-there replies-there fresh-there tell-there set? flagged? beyond? clip-contradicts? clipped-no? clip-there next-there first-of under? equal? head-of? head? third? direct? head-there list-there heads-there too-short? hierarchy-there number-there above? to-go between direct-there rung-there rungs-there ladder-there ladder-made writes-there ladder-written-there fieldFault tellsFrom answersFrom itemsFrom passes-there follows-there read-there off? book-there write-there
 computed = refl
 
 -- P1 to P12, and the other worked marks that say something of the definitions

@@ -12,16 +12,16 @@ use native.Mathlib.Omega.{arith}
 use lib.Dec.{T, ltb, ltb→lt, not-T}
 use lib.ListN.{length, take, drop, length-append}
 use lib.Seq.{take-at, drop-at}
-use Rattle.order.specs.Facts.{Fact, Facts, under, notUnder, _with_, _⊆_, Listed, Within, Chain}
+use Rattle.order.specs.Facts.{Fact, Facts, under, notUnder, _and_, _with_, _⊆_, Listed, Within, Chain}
 use Rattle.order.specs.Tables.{mark, Sound, Marks, SameMarks, TableOf, markFor}
 use Rattle.order.specs.Orders.{Impossible}
 use Rattle.order.specs.Pairs.{Pair, bytesOf}
 use Rattle.order.specs.Refusals.{First}
 use Rattle.order.proofs.Decide.{both, negated}
 use Rattle.order.proofs.Refusals.{stage}
-use Rattle.order.proofs.Sets.{_and_, Settled, Follows as Entailed, entails-subset, follows-one, with-listed, listed-with}
+use Rattle.order.proofs.Sets.{and-none, none-and, Settled, Follows as Entailed, entails-subset, follows-one, with-listed, listed-with}
 use Rattle.order.proofs.Tables.{which, verdict-of, marks-within, sound-table, table-unique, table-of-equals}
-use Rattle.order.proofs.Exactness.{table-possible}
+use Rattle.order.proofs.Exactness.{impossible-subset, table-possible}
 use Rattle.order.proofs.Pairs.{lists-unique, lists-map, pairsOf, pairs-listed, length-bytes}
 use Rattle.order.proofs.Counting.{pairs-two}
 use Rattle.order.proofs.Sound.{is}
@@ -31,18 +31,20 @@ use Rattle.promise.specs.declared.Wrote.{Wrote}
 use Rattle.promise.specs.declared.Wrote.the-variants.{Count}
 use Rattle.promise.specs.Sessions.{noSession, started}
 use Rattle.promise.specs.Refusals.{standing}
+use Rattle.promise.specs.Flags.{truthOf}
 use Rattle.promise.specs.Tell.{Kind, Told}
-use Rattle.promise.specs.Runs.{StandsFor, acceptedFacts}
+use Rattle.promise.specs.Runs.{StandsFor, Accepted}
 use Rattle.promise.specs.Buffers.{TooShort}
 use Rattle.promise.specs.Book.{Tag, tagOf, isUnknown, isMisplaced, allows, chosen, fieldFault, Item, tellsFrom, contents, itemsFrom, itemsOf}
-use Rattle.promise.specs.Read.{isYes, factOf, Passes, Follows, BookRead}
+use Rattle.promise.specs.Read.{factOf, Passes, Follows, BookRead}
 use Rattle.promise.specs.Write.{field, Marked, BookOf, writeRefusals, BookWritten}
 use Rattle.promise.proofs.Standing.{standing-passed, standing-there}
 use Rattle.promise.proofs.Replies.{reply}
 use Rattle.promise.proofs.Fresh.{fresh-accepted, fresh-stands}
-use Rattle.promise.proofs.Tell.{tell-stands, tell-refused}
+use Rattle.promise.proofs.Taking.{leaves-stands}
+use Rattle.promise.proofs.Tell.{tell-leaves, tell-refused}
 use Rattle.promise.proofs.Buffers.{too-short?, writes-unique, writes-there, writes-length}
-use Rattle.promise.proofs.Runs.{stands-equal, none-left, none-right}
+use Rattle.promise.proofs.Runs.{stands-equal}
 use Rattle.promise.proofs.Read.{callsSaid}
 
 -- one book, and there is one
@@ -239,7 +241,32 @@ book-items {n} h = ap itemsOf (h .bytes) ∙ said
 
 -- the facts that items say
 abbrev pub factsSaid : List Item → List Fact
-factsSaid items = acceptedFacts (callsSaid items)
+factsSaid [] = []
+factsSaid (Item.begin p n ∷ items) = factsSaid items
+factsSaid (Item.said p kind a b v ∷ items) = factOf a b v ∷ factsSaid items
+factsSaid (Item.fault p k ∷ items) = factsSaid items
+
+-- they are the facts accepted where all that they say is
+pub said-accepted : (n : ℕ) (items : List Item) (f : Fact) → Accepted n (callsSaid items) f ↔ List·Memᴰ f (factsSaid items)
+said-accepted n [] f = (λ i. absurd i, λ i. absurd (List·Memᴰ·not-nil i))
+said-accepted n (Item.begin p m ∷ items) f = said-accepted n items f
+said-accepted n (Item.said p kind a b v ∷ items) f =
+    let later = said-accepted n items f in (λ i. there later i, λ i. back later (List·Memᴰ·cases-cons i))
+  where
+    g : Fact
+    g = factOf a b v
+
+    Both : Type 0
+    Both = Accepted n (callsSaid items) f ↔ List·Memᴰ f (factsSaid items)
+
+    there : Both → (f ≡ g) ⊎ Accepted n (callsSaid items) f → List·Memᴰ f (g ∷ factsSaid items)
+    there later (inl e) = List·Memᴰ·head e
+    there later (inr i) = List·Memᴰ·tail (later .0 i)
+
+    back : Both → (f ≡ g) ⊎ List·Memᴰ f (factsSaid items) → (f ≡ g) ⊎ Accepted n (callsSaid items) f
+    back later (inl e) = inl e
+    back later (inr i) = inr (later .1 i)
+said-accepted n (Item.fault p k ∷ items) f = said-accepted n items f
 
 said-append : (xs ys : List Item) → factsSaid (xs ++ ys) ≡ factsSaid xs ++ factsSaid ys
 said-append [] ys = refl
@@ -250,7 +277,7 @@ said-append (Item.fault p k ∷ xs) ys = said-append xs ys
 -- the pairs of a list, as facts with verdict v, are what it tells
 tells-mem :
     (v at : ℕ) (l : List Pair) (f : Fact)
-    → List·Memᴰ f (factsSaid (tellsOf v at l)) ↔ (List·Memᴰ (f .lower, f .upper) l × (f .holds ≡ isYes v))
+    → List·Memᴰ f (factsSaid (tellsOf v at l)) ↔ (List·Memᴰ (f .lower, f .upper) l × (f .holds ≡ truthOf v))
 unfolding tellsFrom
 tells-mem v at [] f = (λ i. absurd (List·Memᴰ·not-nil i), λ h. absurd (List·Memᴰ·not-nil (h .0)))
 tells-mem v at (p ∷ l) f =
@@ -258,16 +285,16 @@ tells-mem v at (p ∷ l) f =
     (λ i. there later (List·Memᴰ·cases-cons i), λ h. back later (List·Memᴰ·cases-cons (h .0)) (h .1))
   where
     Both : Type 0
-    Both = List·Memᴰ f (factsSaid (tellsOf v (at + 2) l)) ↔ (List·Memᴰ (f .lower, f .upper) l × (f .holds ≡ isYes v))
+    Both = List·Memᴰ f (factsSaid (tellsOf v (at + 2) l)) ↔ (List·Memᴰ (f .lower, f .upper) l × (f .holds ≡ truthOf v))
 
     there :
         Both → (f ≡ factOf (p .0) (p .1) v) ⊎ List·Memᴰ f (factsSaid (tellsOf v (at + 2) l))
-        → List·Memᴰ (f .lower, f .upper) (p ∷ l) × (f .holds ≡ isYes v)
+        → List·Memᴰ (f .lower, f .upper) (p ∷ l) × (f .holds ≡ truthOf v)
     there later (inl e) = (List·Memᴰ·head (ap (λ (g : Fact). (g .lower, g .upper)) e), ap (λ (g : Fact). g .holds) e)
     there later (inr j) = let r = later .0 j in (List·Memᴰ·tail (r .0), r .1)
 
     back :
-        Both → ((f .lower, f .upper) ≡ p) ⊎ List·Memᴰ (f .lower, f .upper) l → f .holds ≡ isYes v
+        Both → ((f .lower, f .upper) ≡ p) ⊎ List·Memᴰ (f .lower, f .upper) l → f .holds ≡ truthOf v
         → List·Memᴰ f (factsSaid (tellsOf v at (p ∷ l)))
     back later (inl e) z =
         List·Memᴰ·head
@@ -294,8 +321,8 @@ book-says {n} {t} {book} h f = (
     said = ap factsSaid (book-items h) ∙ said-append yes-items no-items
 
     marked :
-        (v : ℕ) {l : List Pair} → Marked n t (markFor (isYes v)) l
-        → List·Memᴰ (f .lower, f .upper) l × (f .holds ≡ isYes v) → Marks n t f × (f .lower ≢ f .upper)
+        (v : ℕ) {l : List Pair} → Marked n t (markFor (truthOf v)) l
+        → List·Memᴰ (f .lower, f .upper) l × (f .holds ≡ truthOf v) → Marks n t f × (f .lower ≢ f .upper)
     marked v k r =
         let q = k .exact (f .lower) (f .upper) .0 (r .0) in
         (record { lower-below = q .0; upper-below = q .1; settled = rw (r .1) (q .2 .1) }, q .2 .0)
@@ -395,17 +422,13 @@ tells-told S v at (p ∷ l) hv h = (
   tells-told S v (at + 2) l hv (λ a b i. h a b (List·Memᴰ·tail i)),
 )
 
-impossible-subset : {n : ℕ} {S S′ : Facts} → S ⊆ S′ → Impossible n S → Impossible n S′
-impossible-subset i x R o g =
-    x R o (record { has = λ a b m. g .has a b (i (under a b) m); lacks = λ a b m. g .lacks a b (i (notUnder a b) m) })
-
 -- Told facts that all stand in G, which some order agrees with, are all accepted, and none counts.
 module _ (n : ℕ) (G : Facts) (within : Within n G) (possible : ¬ Impossible n G) where
   told-accepted :
       (items : List Item) (S : Facts) (t t′ : List ℕ) {r : Reply} → S ⊆ G → AllTold G items → StandsFor S (started n) t
       → Follows items (started n) t r t′
       → (r ≡ reply 0 0 (started n)) × StandsFor (S and Listed (factsSaid items)) (started n) t′
-  told-accepted [] S t t′ i l st h = (h .0, rw (h .1) (stands-equal (λ f m. inl m) (none-right S) st))
+  told-accepted [] S t t′ i l st h = (h .0, rw (h .1) (stands-equal (λ f m. inl m) (and-none S (λ f m. List·Memᴰ·not-nil m)) st))
   told-accepted (Item.begin p m ∷ items) S t t′ i l st h = absurd l
   told-accepted (Item.fault p k ∷ items) S t t′ i l st h = absurd l
   told-accepted (Item.said p kind a b v ∷ items) S t t′ i l st (inl h) = absurd (omega (arith, l .1, h .0))
@@ -433,7 +456,7 @@ module _ (n : ℕ) (G : Facts) (within : Within n G) (possible : ¬ Impossible n
       go (inl (k, e)) later = absurd (accepted k)
       go (inr (k, e)) later =
           let same : q .session ≡ started n = took .replies .session k in
-          let x = later (rw same at (tell-stands st took k)) (rw same at e) in
+          let x = later (rw same at (leaves-stands (tell-leaves took k) st)) (rw same at e) in
           (x .0, stands-equal (listed-with S f (factsSaid items)) (with-listed S f (factsSaid items)) (x .1))
 
 -- "Read back, the marks are the same and the tally is 0."
@@ -445,7 +468,7 @@ read-back {n} {t} {book} {u} {r} {u′} k st some few room h = begun (subst (λ 
     items : List Item
     items = tellsOf 1 (4 + 3) (k .yes-pairs) ++ tellsOf 0 (secondAt (k .yes-pairs)) (k .no-pairs)
 
-    marked : (v : ℕ) {l : List Pair} → Marked n t (markFor (isYes v)) l → (a b : ℕ) → List·Memᴰ (a, b) l → Marks n t (factOf a b v)
+    marked : (v : ℕ) {l : List Pair} → Marked n t (markFor (truthOf v)) l → (a b : ℕ) → List·Memᴰ (a, b) l → Marks n t (factOf a b v)
     marked v l a b i =
         let q = l .exact a b .0 i in
         record { lower-below = q .0; upper-below = q .1; settled = q .2 .1 }
@@ -465,7 +488,7 @@ read-back {n} {t} {book} {u} {r} {u′} k st some few room h = begun (subst (λ 
         table-unique (sound-table st) (table-of-equals (record { at = up }) (entails-subset down) table)
       where
         down : (Listed [] and Listed (factsSaid items)) ⊆ Marks n t
-        down f i = book-says k f .0 (rw said (none-left (Listed (factsSaid items)) f i)) .0
+        down f i = book-says k f .0 (rw said (none-and (Listed (factsSaid items)) {N = Listed []} (λ g m. List·Memᴰ·not-nil m) f i)) .0
 
         up : (f : Fact) → Marks n t f → Entailed (Listed [] and Listed (factsSaid items)) f
         up f m = pick (f .lower) (f .upper) (f .holds) m (ℕ-discrete (f .lower) (f .upper))

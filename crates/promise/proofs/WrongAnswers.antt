@@ -2,13 +2,16 @@
 -- that draws the consequences of the first fact and merely stores later ones, a tally always 0 or invented.
 -- Assumes nothing.
 use mathlib.Core.Path.{_≡_, refl, sym, _∙_, ap, ap₂, subst}
-use mathlib.Core.Logic.{_≢_, _⊎_, ⊎-elim}
+use mathlib.Core.Logic.{_≢_, _⊎_, inl, ⊎-elim}
+use mathlib.Core.Bool.{Bool, true, false}
 use mathlib.Core.List.{List, [], _∷_}
-use Prim.Native.Nat.{ℕ, _+_, _*_}
+use Prim.Native.Nat.{ℕ, zero, suc, _+_, _*_}
 use native.Mathlib.Omega.{arith}
 use lib.ListN.{getD, set}
-use Rattle.order.specs.Facts.{Fact, under}
-use Rattle.order.specs.Tables.{mark, Fresh, markFor}
+use Rattle.order.specs.Facts.{Fact, under, notUnder}
+use Rattle.order.specs.Tables.{mark, Marks, Contradicts, Fresh, markFor, markAgainst}
+use Rattle.order.specs.Pairs.{Before}
+use Rattle.order.proofs.Sets.{yes-not-no}
 use Rattle.promise.specs.declared.Session.{Session}
 use Rattle.promise.specs.declared.Reply.{Reply}
 use Rattle.promise.specs.declared.Question.{Question}
@@ -18,6 +21,7 @@ use Rattle.promise.specs.declared.Wrote.the-variants.{Count, Refused}
 use Rattle.promise.specs.Sessions.{started}
 use Rattle.promise.specs.Fresh.{Freshened}
 use Rattle.promise.specs.Tell.{Kind, Took}
+use Rattle.promise.specs.Clips.{ClipNo, Clipped}
 use Rattle.promise.specs.Next.{numberOf, Asked}
 use Rattle.promise.specs.Buffers.{numberOf as countNumber}
 use Rattle.promise.specs.Hierarchy.{HierarchyWritten}
@@ -26,12 +30,13 @@ use Rattle.promise.specs.Read.{BookRead}
 use Rattle.promise.specs.Write.{BookWritten}
 use Rattle.promise.proofs.Fresh.{fresh-unique}
 use Rattle.promise.proofs.Tell.{tell-unique}
+use Rattle.promise.proofs.Clips.{clip-unique}
 use Rattle.promise.proofs.Next.{next-unique}
 use Rattle.promise.proofs.Hierarchy.{hierarchy-unique}
 use Rattle.promise.proofs.Ladder.{ladder-written-unique}
 use Rattle.promise.proofs.Read.{read-unique}
 use Rattle.promise.proofs.Write.{write-unique}
-use Rattle.promise.proofs.Table.{p2, p3, p4, p7, p8, p11, p12, three, four, accepted, refused, nines, nothing}
+use Rattle.promise.proofs.Table.{p2, p3, p4, p7, p8, p11, p12, afterYes, oneUnderTwo, firstTwo, firstOne, three, four, accepted, refused, nines, nothing}
 use Rattle.promise.proofs.Worked.{met-at}
 
 -- A contract: what goes in, what comes out, what is owed, and that this fixes the outcome.
@@ -175,6 +180,57 @@ pub answer-counts-accepted :
 answer-counts-accepted =
     never (tellContract Kind.answer) (λ i o. o .0 .number ≡ 6 → o .0 .session .tests ≡ i .0 .tests + 1)
     (three 0, p4, under 1 2) (refused 6 0 (three 0), p4) (met-at 89) (λ e. omega (arith, e refl))
+
+-- clip
+
+abbrev pub clipContract : Contract
+clipContract =
+    record {
+      Input = Session × List ℕ × List Bool;
+      Output = Reply × List ℕ;
+      Owes = λ i o. Clipped (i .0) (i .1) (i .2) (o .0) (o .1);
+      only = λ i o o₂ h h₂. pair-same (clip-unique h h₂);
+    }
+
+pub clip-rejects : Rejected clipContract (λ o. o .0 .number) (λ o. o .0) (λ i o. o .1 ≡ i .1)
+clip-rejects =
+    rejected clipContract (λ o. o .0 .number) (λ o. o .0) (λ i o. o .1 ≡ i .1) (three 0, afterYes, firstTwo)
+    (three 0, afterYes, firstOne) (accepted (three 0), p4) (refused 6 0 (three 0), afterYes) (met-at 94) refl
+    (λ e. omega (arith, ap (λ (l : List ℕ). getD l 2 0) e)) (met-at 100)
+    (λ e. omega (arith, ap (λ (r : Reply). r .number) e))
+
+-- Noes told one by one in row order up to the first that contradicts, and left written.
+abbrev pub TakesInPart : Session × List ℕ × List Bool → Reply × List ℕ → Type 0
+TakesInPart i o =
+    o .0 .number ≡ 6 → (f : Fact) → ClipNo (i .0 .classes) (i .2) f
+    → ((g : Fact) → ClipNo (i .0 .classes) (i .2) g → Contradicts (i .0 .classes) (i .1) g → Before (f .lower, f .upper) (g .lower, g .upper))
+    → Marks (i .0 .classes) (o .1) f
+
+-- where 1 is under 2 and 0 and 1 played: the no on (0, 2) comes before that on (1, 2)
+pub clip-not-in-part : (p : Program clipContract) → ¬ ((i : Session × List ℕ × List Bool) → TakesInPart i (p .run i))
+unfolding mark
+clip-not-in-part =
+    never clipContract TakesInPart (three 0, oneUnderTwo, firstTwo) (refused 6 0 (three 0), oneUnderTwo) (met-at 101) (λ h.
+    omega (arith, h refl (notUnder 0 2) said (λ g no-fact against. later (g .lower) (g .upper) (g .holds) no-fact against) .settled))
+  where
+    said : ClipNo 3 firstTwo (notUnder 0 2)
+    said =
+        record {
+          below = record { lower-below = omega arith; upper-below = omega arith };
+          member = refl;
+          non-member = λ e. yes-not-no (sym e);
+          is-no = refl;
+        }
+
+    later :
+        (a b : ℕ) (v : Bool) → ClipNo 3 firstTwo (record { lower = a; upper = b; holds = v })
+        → mark 3 oneUnderTwo a b ≡ markAgainst v → Before (0, 2) (a, b)
+    later (suc a) b v h m = inl (omega arith)
+    later zero zero v h m = absurd (h .non-member refl)
+    later zero (suc zero) v h m = absurd (h .non-member refl)
+    later zero (suc (suc zero)) true h m = absurd (yes-not-no (h .is-no))
+    later zero (suc (suc zero)) false h m = let e : _≡_ {A = ℕ} 0 1 = m in absurd (omega arith)
+    later zero (suc (suc (suc b))) v h m = absurd (omega (arith, h .below .upper-below))
 
 -- next: one that always says done is idle
 

@@ -1,6 +1,6 @@
 -- Ladders: document 01, "Groups, direct steps, ladders".
 -- Assumes nothing.
-use mathlib.Core.Logic.{_≢_}
+use mathlib.Core.Logic.{_≢_, _⊎_}
 use mathlib.Core.List.{List, [], _∷_}
 use Prim.Native.Nat.{ℕ, suc, _≤_}
 use Rattle.order.specs.Refusals.{Condition}
@@ -44,7 +44,7 @@ pub data Number (P : ℕ → Type 0) : ℕ → ℕ → Type 0 where
 -- "ladder 5, 7, 9, 8"
 abbrev pub ladderRefusals : Session → List ℕ → ℕ → ℕ → List ℕ → List Condition
 ladderRefusals s t a b out =
-    noSuchClass (s .classes) a b
+    noSuchClass ((s .classes ≤ a) ⊎ (s .classes ≤ b))
     ∷ stillOpen (s .classes) t
     ∷ noLadder (s .classes) t a b
     ∷ noRoom (TooShort (LadderOf (s .classes) t a b) out)

@@ -2,7 +2,9 @@ pub mod Sessions
 pub mod Refusals
 pub mod Replies
 pub mod Fresh
+pub mod Flags
 pub mod Tell
+pub mod Clips
 pub mod Runs
 pub mod Next
 pub mod Buffers

@@ -2,25 +2,20 @@
 -- Assumes nothing.
 use mathlib.Core.Path.{_≡_}
 use mathlib.Core.Logic.{_≢_, _⊎_}
-use mathlib.Core.Bool.{Bool, true, false}
 use mathlib.Core.List.{List, [], _∷_}
-use Prim.Native.Nat.{ℕ, zero, suc, _≤_, _<_}
+use Prim.Native.Nat.{ℕ, _≤_, _<_}
 use Rattle.order.specs.Facts.{Fact}
 use Rattle.promise.specs.declared.Session.{Session}
 use Rattle.promise.specs.declared.Reply.{Reply}
 use Rattle.promise.specs.Sessions.{noSession}
+use Rattle.promise.specs.Flags.{truthOf}
 use Rattle.promise.specs.Fresh.{Freshened}
 use Rattle.promise.specs.Tell.{Took}
 use Rattle.promise.specs.Book.{Item, itemsOf}
 
--- "verdict 1 yes or 0 no"
-abbrev pub isYes : ℕ → Bool
-isYes zero = false
-isYes (suc v) = true
-
--- the fact that three bytes make
+-- the fact that three bytes make, "verdict 1 yes or 0 no"
 abbrev pub factOf : ℕ → ℕ → ℕ → Fact
-factOf a b v = record { lower = a; upper = b; holds = isYes v }
+factOf a b v = record { lower = a; upper = b; holds = truthOf v }
 
 -- the reading ends here with a number and a place; session and table are as they stand
 abbrev pub Ends : ℕ → ℕ → Session → List ℕ → Reply → List ℕ → Type 0

@@ -3,10 +3,9 @@
 use mathlib.Core.Path.{_≡_}
 use mathlib.Core.Logic.{_≢_, _⊎_}
 use mathlib.Core.List.{List, _∷_}
-use Prim.Native.Nat.{ℕ, _+_, _*_, _-_, _≤_, _<_}
+use Prim.Native.Nat.{ℕ, _+_, _*_, _-_, _<_}
 use lib.ListN.{length}
-use Rattle.order.specs.Facts.{Fact}
-use Rattle.order.specs.Tables.{mark, Sound, Contradicts, opens}
+use Rattle.order.specs.Tables.{mark, Sound, opens}
 use Rattle.order.specs.Refusals.{Condition}
 use Rattle.promise.specs.declared.Session.{Session}
 
@@ -28,12 +27,12 @@ overcounted s t =
     record { number = 4; when = s .classes * s .classes - s .classes < s .tests + opens (s .classes) t }
 
 -- "a class number is n or more"
-abbrev pub noSuchClass : ℕ → ℕ → ℕ → Condition
-noSuchClass n a b = record { number = 5; when = (n ≤ a) ⊎ (n ≤ b) }
+abbrev pub noSuchClass : Type 0 → Condition
+noSuchClass beyond = record { number = 5; when = beyond }
 
 -- "the fact contradicts"
-abbrev pub contradicted : ℕ → List ℕ → Fact → Condition
-contradicted n t f = record { number = 6; when = Contradicts n t f }
+abbrev pub contradicted : Type 0 → Condition
+contradicted contradicts = record { number = 6; when = contradicts }
 
 -- "a pair is still open"
 abbrev pub stillOpen : ℕ → List ℕ → Condition

@@ -1,9 +1,12 @@
--- Runs: "any run of tells and answers from a fresh table, refused ones among them, table and tally passed on untouched".
+-- Runs: "any run of tells and answers from a fresh table, refused ones among them, table and tally passed on untouched", with clips among
+-- them: "Demand 3 reads a clip as its noes, accepted or refused as one".
 -- Assumes nothing.
 use mathlib.Core.Path.{_≡_}
+use mathlib.Core.Logic.{_⊎_}
+use mathlib.Core.Bool.{Bool}
 use mathlib.Core.List.{List, [], _∷_}
 use Prim.Native.Nat.{ℕ, zero, suc, _+_}
-use Rattle.order.specs.Facts.{Fact, Facts, Within}
+use Rattle.order.specs.Facts.{Fact, Facts, Only, Below, Within}
 use Rattle.order.specs.Tables.{mark, TableOf}
 use Rattle.order.specs.Refusals.{First}
 use Rattle.promise.specs.declared.Session.{Session}
@@ -11,6 +14,7 @@ use Rattle.promise.specs.declared.Reply.{Reply}
 use Rattle.promise.specs.Refusals.{standing}
 use Rattle.promise.specs.Fresh.{Freshened}
 use Rattle.promise.specs.Tell.{Kind, adds, Took}
+use Rattle.promise.specs.Clips.{ClipNo, MemberBeyond, Clipped}
 
 -- The table t is that of the facts of S, with a session that it can be used with: refusals 1 to 4 are not due.
 pub record StandsFor (S : Facts) (s : Session) (t : List ℕ) : Type 0 where
@@ -18,46 +22,85 @@ pub record StandsFor (S : Facts) (s : Session) (t : List ℕ) : Type 0 where
   pub table : TableOf (s .classes) S t
   pub stands : First (standing s t []) 0
 
+-- a call that takes facts in: a fact told or given as an answer, or a clip
+pub data Call : Type 0 where
+  take : Kind → Fact → Call
+  clip : List Bool → Call
+
+-- with session s and table t the call is made: the reply is r, and the table is then t′
+pub data Makes : Call → Session → List ℕ → Reply → List ℕ → Type 0 where
+  took :
+      {kind : Kind} {f : Fact} {s : Session} {t t′ : List ℕ} {r : Reply} → Took kind s t f r t′
+      → Makes (Call.take kind f) s t r t′
+  clipped :
+      {played : List Bool} {s : Session} {t t′ : List ℕ} {r : Reply} → Clipped s t played r t′
+      → Makes (Call.clip played) s t r t′
+
+-- the facts that a call says, for n classes
+abbrev pub SaidBy : ℕ → Call → Facts
+SaidBy n (Call.take kind f) = Only f
+SaidBy n (Call.clip played) = ClipNo n played
+
+-- the facts that the calls of a list say
+abbrev pub Said : ℕ → List Call → Facts
+Said n [] f = ⊥
+Said n (c ∷ later) f = SaidBy n c f ⊎ Said n later f
+
+-- every class that a call names is below n; and so for the calls of a list
+abbrev pub Fits : ℕ → Call → Type 0
+Fits n (Call.take kind f) = Below n f
+Fits n (Call.clip played) = ¬ MemberBeyond n played
+
+abbrev pub AllFit : ℕ → List Call → Type 0
+AllFit n [] = Unit {0}
+AllFit n (c ∷ later) = Fits n c × AllFit n later
+
+-- what a call adds to the tally, by its refusal number and the session and the table before it
+abbrev pub addedBy : Call → ℕ → Session → List ℕ → ℕ
+addedBy (Call.take kind f) number s t = adds kind number (mark (s .classes) t (f .lower) (f .upper))
+addedBy (Call.clip played) number s t = 0
+
 -- a call that was made, and the refusal number that it got
 pub record Made : Type 0 where
-  pub kind : Kind
-  pub fact : Fact
+  pub call : Call
   pub number : ℕ
 
 -- The calls of a list, the first first, lead from session s and table t to s′ and t′.
 pub data Run : Session → List ℕ → List Made → Session → List ℕ → Type 0 where
   stop : {s : Session} {t : List ℕ} → Run s t [] s t
   call :
-      {m : Made} {later : List Made} {s s′ : Session} {t t₁ t′ : List ℕ} {r : Reply} → Took (m .kind) s t (m .fact) r t₁
+      {m : Made} {later : List Made} {s s′ : Session} {t t₁ t′ : List ℕ} {r : Reply} → Makes (m .call) s t r t₁
       → r .number ≡ m .number → Run (r .session) t₁ later s′ t′ → Run s t (m ∷ later) s′ t′
 
 -- fresh is accepted for n classes on the table t, and the calls of a list follow
-pub record FromFresh (n : ℕ) (t : List ℕ) (calls : List Made) (s′ : Session) (t′ : List ℕ) : Type 0 where
+pub record FromFresh (n : ℕ) (t : List ℕ) (made : List Made) (s′ : Session) (t′ : List ℕ) : Type 0 where
   pub reply : Reply
   pub table : List ℕ
   pub began : Freshened n t reply table
   pub accepted : reply .number ≡ 0
-  pub run : Run (reply .session) table calls s′ t′
+  pub run : Run (reply .session) table made s′ t′
 
--- a call, before its refusal number is known
-abbrev pub Call : Type 0
-Call = Kind × Fact
-
+-- the calls, without the refusal numbers that they got
 abbrev pub callsOf : List Made → List Call
 callsOf [] = []
-callsOf (m ∷ later) = (m .kind, m .fact) ∷ callsOf later
+callsOf (m ∷ later) = m .call ∷ callsOf later
 
-abbrev pub unlessRefused : ℕ → Fact → List Fact → List Fact
-unlessRefused zero f later = f ∷ later
-unlessRefused (suc k) f later = later
+-- the facts of S where the number is 0, and none where the call was refused
+abbrev pub UnlessRefused : ℕ → Facts → Facts
+UnlessRefused zero S f = S f
+UnlessRefused (suc k) S f = ⊥
 
--- the facts accepted
-abbrev pub acceptedFacts : List Made → List Fact
-acceptedFacts [] = []
-acceptedFacts (m ∷ later) = unlessRefused (m .number) (m .fact) (acceptedFacts later)
+-- the facts accepted, for n classes
+abbrev pub Accepted : ℕ → List Made → Facts
+Accepted n [] f = ⊥
+Accepted n (m ∷ later) f = UnlessRefused (m .number) (SaidBy n (m .call)) f ⊎ Accepted n later f
+
+-- every call of a list was accepted
+abbrev pub AllAccepted : List Made → Type 0
+AllAccepted [] = Unit {0}
+AllAccepted (m ∷ later) = (m .number ≡ 0) × AllAccepted later
 
 -- "a number read off the history": how many of the calls were answers accepted on pairs open before them
-unfoldable pub testsIn : {s s′ : Session} {t t′ : List ℕ} {calls : List Made} → Run s t calls s′ t′ → ℕ
+unfoldable pub testsIn : {s s′ : Session} {t t′ : List ℕ} {made : List Made} → Run s t made s′ t′ → ℕ
 testsIn Run.stop = 0
-testsIn (Run.call {m = m} {s = s} {t = t} took same later) =
-    adds (m .kind) (m .number) (mark (s .classes) t (m .fact .lower) (m .fact .upper)) + testsIn later
+testsIn (Run.call {m = m} {s = s} {t = t} makes same later) = addedBy (m .call) (m .number) s t + testsIn later

@@ -1,9 +1,10 @@
 -- Tell and answer: a fact is taken in.
 -- Assumes nothing.
+use mathlib.Core.Logic.{_⊎_}
 use mathlib.Core.List.{List, [], _∷_}
-use Prim.Native.Nat.{ℕ, zero, suc}
+use Prim.Native.Nat.{ℕ, zero, suc, _≤_}
 use Rattle.order.specs.Facts.{Fact, _with_}
-use Rattle.order.specs.Tables.{mark, TableOf, Marks}
+use Rattle.order.specs.Tables.{mark, TableOf, Marks, Contradicts}
 use Rattle.order.specs.Refusals.{Condition}
 use Rattle.promise.specs.declared.Session.{Session}
 use Rattle.promise.specs.declared.Reply.{Reply}
@@ -26,7 +27,8 @@ adds Kind.answer (suc k) m = 0
 
 -- "tell and answer 5, 6"
 abbrev pub tellRefusals : Session → List ℕ → Fact → List Condition
-tellRefusals s t f = noSuchClass (s .classes) (f .lower) (f .upper) ∷ contradicted (s .classes) t f ∷ []
+tellRefusals s t f =
+    noSuchClass ((s .classes ≤ f .lower) ⊎ (s .classes ≤ f .upper)) ∷ contradicted (Contradicts (s .classes) t f) ∷ []
 
 -- With session s and table t the fact f is told, or given as an answer: the reply is r, and the table is then t′, where accepted that
 -- of the marks of t and of f.

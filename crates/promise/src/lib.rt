@@ -7,7 +7,12 @@ pub struct Session {
     pub tests: usize,
 }
 
-// What fresh, tell, answer and read give: the refusal number, 0 where the call was accepted; its place, 0 outside books; the session
+// The set of classes that played a trial clip: the flag of each class.
+pub struct Clip {
+    pub played: [bool; MOST_CLASSES],
+}
+
+// What fresh, tell, answer, clip and read give: the refusal number, 0 where the call was accepted; its place, 0 outside books; the session
 // that holds from now on.
 #[repr(C)]
 pub struct Reply {

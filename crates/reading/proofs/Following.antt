@@ -14,11 +14,13 @@ use Rattle.promise.specs.Refusals.{standing}
 use Rattle.promise.specs.Fresh.{Freshened}
 use Rattle.promise.specs.Tell.{Kind, Took}
 use Rattle.promise.specs.Book.{tagOf, Item}
-use Rattle.promise.specs.Read.{isYes, factOf, Follows}
+use Rattle.promise.specs.Flags.{truthOf}
+use Rattle.promise.specs.Read.{factOf, Follows}
 use Rattle.promise.proofs.Replies.{reply-same}
 use Rattle.promise.proofs.Standing.{stood, first-stands}
 use Rattle.promise.proofs.Fresh.{fresh-stands}
-use Rattle.promise.proofs.Tell.{tell-keeps}
+use Rattle.promise.proofs.Taking.{leaves-keeps}
+use Rattle.promise.proofs.Tell.{tell-leaves}
 use Rattle.session.specs.Facts.{factOn, kindOf, stoppedAt}
 use Rattle.reading.specs.Parts.{takenAs, PlacedAt, Led}
 use Rattle.reading.proofs.Tags.{taken-kind}
@@ -84,7 +86,7 @@ fact-taken {p} {a} {b} {v} {kind} {s} {t} {q} {r} {t′} stands l took placed = 
         let same = placed .accepted e in
         record {
           follows = inr (l, q, t′, took, inr (e, (same ∙ accepted-reply e (took .replies .place), refl)));
-          stands = λ _. rw same (first-stands [] (tell-keeps (stood s t 0 stands refl) took e) refl);
+          stands = λ _. rw same (first-stands [] (leaves-keeps (tell-leaves took e) (stood s t 0 stands refl)) refl);
         }
     go (no ne) =
         let same = placed .refused ne in
@@ -97,7 +99,7 @@ pub fact-read :
     → Led (Item.said p (takenAs (tagOf tag)) a b v ∷ []) s t r t′
 fact-read tag {v = v} stands l took placed = fact-taken stands l (rw (taken-kind tag, yes-one v l) took) placed
   where
-    yes-one : (v : ℕ) → v ≤ 1 → isYes v ≡ eqb v 1
+    yes-one : (v : ℕ) → v ≤ 1 → truthOf v ≡ eqb v 1
     yes-one zero h = refl
     yes-one (suc zero) h = refl
     yes-one (suc (suc v)) h = absurd (omega arith)

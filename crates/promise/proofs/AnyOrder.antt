@@ -1,0 +1,122 @@
+-- Calls on classes below n are accepted whole exactly when some order agrees with all that they say; so the order in which they come, and
+-- which calls say it, make no difference.
+-- Assumes nothing.
+use mathlib.Core.Path.{_≡_, sym, _∙_, subst}
+use mathlib.Core.Logic.{_↔_, _⊎_, inl, inr}
+use mathlib.Core.List.{List, [], _∷_}
+use Prim.Native.Nat.{ℕ}
+use native.Mathlib.Decide.{ℕ-discrete}
+use Rattle.order.specs.Facts.{Fact, Facts, _and_, _⊆_, Within}
+use Rattle.order.specs.Tables.{TableOf}
+use Rattle.order.specs.Orders.{Impossible}
+use Rattle.order.proofs.Decide.{stable}
+use Rattle.order.proofs.Sets.{entails-subset, within-and, and-left}
+use Rattle.order.proofs.Tables.{table-unique, table-of-equals}
+use Rattle.order.proofs.Exactness.{impossible-subset, table-possible}
+use Rattle.order.proofs.Bytes.{same-list, rest-sym, rest-trans}
+use Rattle.promise.specs.declared.Session.{Session}
+use Rattle.promise.specs.Runs.{StandsFor, Call, SaidBy, Said, Fits, AllFit, Made, Run, callsOf, Accepted, AllAccepted}
+use Rattle.promise.proofs.Taking.{leaves-stands}
+use Rattle.promise.proofs.Runs.{makes-leaves, makes-contradicted, run-stands, run-tests, run-rest}
+
+-- where all were accepted, the facts accepted are those said
+pub accepted-said : (n : ℕ) (made : List Made) → AllAccepted made → (f : Fact) → Accepted n made f ↔ Said n (callsOf made) f
+accepted-said n [] all f = (λ i. i, λ i. i)
+accepted-said n (m ∷ later) all f =
+    let q = accepted-said n later (all .1) f in
+    rw (all .0) (there q, back q)
+  where
+    Both : Type 0
+    Both = Accepted n later f ↔ Said n (callsOf later) f
+
+    there : Both → SaidBy n (m .call) f ⊎ Accepted n later f → SaidBy n (m .call) f ⊎ Said n (callsOf later) f
+    there q (inl i) = inl i
+    there q (inr i) = inr (q .0 i)
+
+    back : Both → SaidBy n (m .call) f ⊎ Said n (callsOf later) f → SaidBy n (m .call) f ⊎ Accepted n later f
+    back q (inl i) = inl i
+    back q (inr i) = inr (q .1 i)
+
+-- what calls that fit say is on classes below n
+all-within : (n : ℕ) (calls : List Call) → AllFit n calls → Within n (Said n calls)
+all-within n [] fit f i = absurd i
+all-within n (Call.take kind g ∷ later) fit f (inl e) = rw e (fit .0)
+all-within n (Call.clip played ∷ later) fit f (inl i) = i .below
+all-within n (Call.take kind g ∷ later) fit f (inr i) = all-within n later (fit .1) f i
+all-within n (Call.clip played ∷ later) fit f (inr i) = all-within n later (fit .1) f i
+
+possible-accepted :
+    {n : ℕ} (S : Facts) {s s′ : Session} {t t′ : List ℕ} {made : List Made} → s .classes ≡ n → StandsFor S s t
+    → AllFit n (callsOf made) → Run s t made s′ t′ → ¬ Impossible n (S and Said n (callsOf made)) → AllAccepted made
+possible-accepted S c st fit Run.stop possible = tt
+possible-accepted {n} S {s} {s′} {t} {t′} c st fit (Run.call {m = m} {later = later} {t₁ = t₁} {r = r} h e run) possible =
+    let l = makes-leaves h first in (
+      sym e ∙ first,
+      possible-accepted (S and SaidBy n (m .call)) (l .classes ∙ c)
+          (subst (λ (k : ℕ). StandsFor (S and SaidBy k (m .call)) (r .session) t₁) c (leaves-stands l st)) (fit .1) run
+          (λ x. possible (impossible-subset (and-left S (SaidBy n (m .call)) (Said n (callsOf later))) x)),
+    )
+  where
+    fewer : (S and SaidBy n (m .call)) ⊆ (S and Said n (m .call ∷ callsOf later))
+    fewer f (inl i) = inl i
+    fewer f (inr i) = inr (inl i)
+
+    fits : Fits (s .classes) (m .call)
+    fits = rw c (fit .0)
+
+    first : r .number ≡ 0
+    first =
+        stable (ℕ-discrete (r .number) 0) (λ z.
+        possible (impossible-subset fewer (rw c at (makes-contradicted (m .call) st fits h .0 .0 z))))
+
+module _
+    {n : ℕ} (S : Facts) {s s′ : Session} {t t′ : List ℕ} {made : List Made} (c : s .classes ≡ n) (st : StandsFor S s t)
+    (run : Run s t made s′ t′) where
+  -- accepted whole, the run leaves the table of the facts before and all that was said
+  pub whole-table : AllAccepted made → TableOf n (S and Said n (callsOf made)) t′
+  whole-table all =
+      table-of-equals (entails-subset said) (entails-subset meant)
+      (subst (λ (k : ℕ). TableOf k (S and Accepted n made) t′) (run-tests run .0 ∙ c) (run-stands c st run .table))
+    where
+      said : (S and Said n (callsOf made)) ⊆ (S and Accepted n made)
+      said f (inl i) = inl i
+      said f (inr i) = inr (accepted-said n made all f .1 i)
+
+      meant : (S and Accepted n made) ⊆ (S and Said n (callsOf made))
+      meant f (inl i) = inl i
+      meant f (inr i) = inr (accepted-said n made all f .0 i)
+
+  -- calls are accepted whole exactly when some order agrees with all that they say and the facts before
+  pub run-whole : AllFit n (callsOf made) → AllAccepted made ↔ (¬ Impossible n (S and Said n (callsOf made)))
+  run-whole fit = (
+    λ all. table-possible (within-and (rw c at (st .within)) (all-within n (callsOf made) fit)) (whole-table all),
+    possible-accepted S c st fit run,
+  )
+
+-- two runs that say the same facts: both are accepted whole or neither is, and accepted they leave the same table
+pub runs-same :
+    {n : ℕ} (S : Facts) {s s₁ s₂ : Session} {t t₁ t₂ : List ℕ} {made made₂ : List Made} → s .classes ≡ n → StandsFor S s t
+    → AllFit n (callsOf made) → AllFit n (callsOf made₂) → Run s t made s₁ t₁ → Run s t made₂ s₂ t₂
+    → ((f : Fact) → Said n (callsOf made) f ↔ Said n (callsOf made₂) f)
+    → (AllAccepted made ↔ AllAccepted made₂) × (AllAccepted made → t₁ ≡ t₂)
+runs-same {n} S {s} {s₁} {s₂} {t} {t₁} {t₂} {made} {made₂} c st fit fit₂ run run₂ same = ((there, back), left)
+  where
+    less : (S and Said n (callsOf made)) ⊆ (S and Said n (callsOf made₂))
+    less f (inl i) = inl i
+    less f (inr i) = inr (same f .0 i)
+
+    more : (S and Said n (callsOf made₂)) ⊆ (S and Said n (callsOf made))
+    more f (inl i) = inl i
+    more f (inr i) = inr (same f .1 i)
+
+    there : AllAccepted made → AllAccepted made₂
+    there all = run-whole S c st run₂ fit₂ .1 (λ x. run-whole S c st run fit .0 all (impossible-subset more x))
+
+    back : AllAccepted made₂ → AllAccepted made
+    back all = run-whole S c st run fit .1 (λ x. run-whole S c st run₂ fit₂ .0 all (impossible-subset less x))
+
+    left : AllAccepted made → t₁ ≡ t₂
+    left all =
+        same-list
+        (table-unique (table-of-equals (entails-subset more) (entails-subset less) (whole-table S c st run all))
+        (whole-table S c st run₂ (there all))) (rw c at (rest-trans (rest-sym (run-rest run)) (run-rest run₂)))
