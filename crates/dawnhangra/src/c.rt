@@ -6,6 +6,7 @@ use promise::Wrote;
 ghost use mathlib.Core.Path.{_≡_};
 ghost use Rattle.promise.specs.Fresh.{Freshened};
 ghost use Rattle.promise.specs.Tell.{Told, Answered};
+ghost use Rattle.promise.specs.Clips.{ClippedByBytes};
 ghost use Rattle.promise.specs.Next.{Asked};
 ghost use Rattle.promise.specs.Hierarchy.{HierarchyWritten};
 ghost use Rattle.promise.specs.Ladder.{LadderWritten};
@@ -114,6 +115,14 @@ pub extern "C" fn dawnhangra_answer(
     ensures { λ r. ⌜ Answered session (now (table .entry)) (factOn lower upper holds) r (now (table .exit)) ⌝ }
 {
     session::answer(session, table, lower, upper, holds)
+}
+
+// The call clip, with a byte for each flag.
+#[no_mangle]
+pub extern "C" fn dawnhangra_clip(session: Session, table: &mut [u8], played: &[u8]) -> Reply
+    ensures { λ r. ⌜ ClippedByBytes session (now (table .entry)) (now (played .entry)) r (now (table .exit)) ⌝ }
+{
+    clips::clip_bytes(session, table, played)
 }
 
 // The call next.

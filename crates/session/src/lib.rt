@@ -11,7 +11,7 @@ use promise::SHORT_TABLE;
 use promise::Session;
 pub use replies::accepted;
 pub use replies::no_session;
-use replies::refused;
+pub use replies::refused;
 use replies::started;
 pub use replies::stopped;
 ghost use Rattle.promise.specs.Fresh.{Freshened};

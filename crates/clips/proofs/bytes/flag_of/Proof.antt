@@ -1,0 +1,26 @@
+-- `clips::bytes::flag_of` meets its contract.
+-- Assumes nothing.
+use mathlib.Core.Path.{sym, _∙_}
+use native.Mathlib.Omega.{arith}
+use lib.ListN.{getD}
+use Rattle.promise.specs.Flags.{flagsOf}
+use Rattle.promise.proofs.Flags.{flag-behind}
+use Rattle.clips.proofs.Seen.{flag-read, flags-length, byte-set}
+use Rattle.clips.proofs.bytes.flag_of.Statement.{statement}
+use Rattle.clips.proofs.bytes.flag_of.Tie as tie
+
+shared-slice-read-result : tie.Need-shared-slice-read-result
+shared-slice-read-result c = omega arith
+
+returns : tie.Need-returns
+returns c =
+    let start = c .before .before in
+    byte-set (getD (start .args .played .now) (start .args .class) 0) ∙ sym (flag-read (start .args .played .now) (start .args .class))
+
+returns-2 : tie.Need-returns-2
+returns-2 c =
+    let bytes = c .before .args .played .now in
+    flag-behind (flagsOf bytes) (c .before .args .class) (omega (arith, flags-length bytes))
+
+pub flag-of-spec : {M : Type 1} → statement M
+flag-of-spec = tie.close (tie.spec shared-slice-read-result returns returns-2)

@@ -1,0 +1,56 @@
+-- `clips::bytes::flags_of` meets its contract: flag by flag.
+-- Assumes nothing.
+use mathlib.Core.Path.{refl}
+use Prim.Native.Nat.{_-_}
+use native.Mathlib.Omega.{arith}
+use borrow.Author.Needs.{needs}
+use Rattle.promise.specs.Flags.{Flagged, flagsOf}
+use Rattle.passes.proofs.Pass.{Gathered, gather-start, gather-next}
+use Rattle.clips.proofs.Seen.{flags-length, same-gathered}
+use Rattle.clips.proofs.bytes.flags_of.Statement.{statement}
+use Rattle.clips.proofs.bytes.flags_of.Tie as tie
+
+abbrev Inv-loop : tie.InvT-loop
+Inv-loop played flags₀ class₀ flags class = Gathered 128 (Flagged (flagsOf played)) class flags
+
+abbrev μ-loop : tie.MeasureT-loop
+μ-loop played flags₀ class₀ flags class = 128 - class
+
+loop-holds : tie.Need-loop-holds Inv-loop μ-loop
+loop-holds c = gather-start refl
+
+flag-of-requires : tie.Need-flag-of-requires Inv-loop μ-loop
+flag-of-requires c κs = search needs
+
+array-write-flags : tie.Need-array-write-flags Inv-loop μ-loop
+array-write-flags c = omega arith
+
+add-class : tie.Need-add-class Inv-loop μ-loop
+add-class c = omega arith
+
+loop-less : tie.Need-loop-less Inv-loop μ-loop
+loop-less c = omega arith
+
+loop-again : tie.Need-loop-again Inv-loop μ-loop
+loop-again c =
+    gather-next (omega arith) (c .before .loop-test .taken) (c .before .before .loop .inv)
+    (rw (c .flag-of .ensures) (λ e. e, λ e. e))
+
+returns : tie.Need-returns Inv-loop μ-loop
+returns c =
+    let start = c .before .before .before in
+    same-gathered (omega (arith, flags-length (start .args .played .now), start .pre)) (c .loop-test .left) (c .before .loop .inv)
+
+pub flags-of-spec : {M : Type 1} → statement M
+flags-of-spec =
+    tie.close
+    (tie.spec
+    Inv-loop
+    μ-loop
+    loop-holds
+    flag-of-requires
+    array-write-flags
+    add-class
+    loop-less
+    loop-again
+    returns)

@@ -1,0 +1,96 @@
+-- `clips::clip_bytes` meets its contract: of the flags only the members matter.
+-- Assumes nothing.
+use mathlib.Core.Path.{subst}
+use mathlib.Core.Logic.{Iff·symm}
+use mathlib.Core.List.{[]}
+use Prim.Native.Nat.{ℕ}
+use native.Mathlib.Omega.{arith}
+use borrow.Author.Needs.{needs}
+use Rattle.order.specs.Refusals.{First}
+use Rattle.promise.specs.Refusals.{standing}
+use Rattle.promise.proofs.Standing.{Stands, stood}
+use Rattle.promise.proofs.Clips.{clip-same-members, bytes-fit, bytes-misfit, bytes-not-standing}
+use Rattle.clips.proofs.clip_bytes.Statement.{statement}
+use Rattle.clips.proofs.clip_bytes.Tie as tie
+
+-- none of the refusals 1 to 4 is due
+stands : (c : tie.Else1) → Stands (c .before .before .before .before .before .args .session) (c .before .before .before .before .before .args .table .now)
+stands c = stood _ _ _ (c .before .standing .ensures) (c .if1 .left)
+
+standing-requires : tie.Need-standing-requires
+standing-requires c κs = search needs
+
+refused-requires : tie.Need-refused-requires
+refused-requires c κs = search needs
+
+same-length : tie.Need-same-length
+same-length c = search needs
+
+returns : tie.Need-returns
+returns c =
+    let tried = c .before in
+    rw (c .refused .ensures) (bytes-not-standing (tried .before .standing .ensures) (tried .if1 .taken))
+
+refused-requires-2 : tie.Need-refused-requires-2
+refused-requires-2 c κs = search needs
+
+same-length-2 : tie.Need-same-length-2
+same-length-2 c = search needs
+
+returns-2 : tie.Need-returns-2
+returns-2 c =
+    let short = c .before in
+    rw (c .refused2 .ensures) (bytes-misfit (stands (short .before .before)) (λ fit. omega (arith, short .if2 .taken, fit .enough)))
+
+refused-requires-3 : tie.Need-refused-requires-3
+refused-requires-3 c κs = search needs
+
+same-length-3 : tie.Need-same-length-3
+same-length-3 c = search needs
+
+returns-3 : tie.Need-returns-3
+returns-3 c =
+    let long = c .before in
+    rw (c .refused3 .ensures)
+    (bytes-misfit (stands (long .before .before .before)) (λ fit. omega (arith, long .if3 .taken, fit .few)))
+
+flags-of-requires : tie.Need-flags-of-requires
+flags-of-requires c κs = search needs
+
+take-standing-requires : tie.Need-take-standing-requires
+take-standing-requires c κs =
+    let tried = c .before .before .before .before .before .before in
+    let start = tried .before .before .before .before .before in
+    subst (λ (k : ℕ). First (standing (start .args .session) (start .args .table .now) []) k) (tried .if1 .left)
+    (tried .before .standing .ensures)
+
+same-length-4 : tie.Need-same-length-4
+same-length-4 c = search needs
+
+returns-4 : tie.Need-returns-4
+returns-4 c =
+    let taken = c .before .before in
+    let flagged = taken .before .before .before in
+    let fitted = flagged .before in
+    let st = stands (fitted .before .before .before) in
+    bytes-fit st (record { enough = fitted .before .if2 .left; few = fitted .if3 .left })
+    (clip-same-members _ _ (λ a. Iff·symm (flagged .flags-of .ensures .at a)) (taken .take-standing .ensures))
+
+pub clip-bytes-spec : {M : Type 1} → statement M
+clip-bytes-spec =
+    tie.close
+    (tie.spec
+    standing-requires
+    refused-requires
+    same-length
+    returns
+    refused-requires-2
+    same-length-2
+    returns-2
+    refused-requires-3
+    same-length-3
+    returns-3
+    flags-of-requires
+    take-standing-requires
+    same-length-4
+    returns-4)
