@@ -6,6 +6,7 @@
 //     fresh 3            the call on that table, and so on
 //     tell yes 0 1       with that session
 //     answer no 0 2
+//     clip 0 1           a clip that 0 and 1 played; a class is below 128
 //     hierarchy 4 3      with 4 bytes for heads and 3 for steps
 //     ladder 0 2 3       from 0 to 2, with 3 bytes for rungs
 //     read 1 0 1 3       these bytes as a book
@@ -13,6 +14,9 @@
 //
 // A number is below 256, and a line has at most 32.
 use crate::calls;
+use promise::Clip;
+use promise::MOST_CLASSES;
+use promise::Reply;
 use promise::Session;
 use shown::text;
 ghost use Prim.Native.Nat.{_≤_};
@@ -150,34 +154,48 @@ fn write(
     }
 }
 
+// The clip that these classes played.
+fn clip_of(classes: &[u8]) -> Clip {
+    let mut played: [bool; MOST_CLASSES] = [false; MOST_CLASSES];
+    for i in 0..classes.len() {
+        let class = classes[i] as usize % MOST_CLASSES;
+        played[class] = true;
+    }
+    Clip { played: played }
+}
+
+// A call that may change the table, and what it replied.
+fn change(session: Session, table: &mut [u8], line: &[u8], given: &[u8]) -> Reply {
+    let a = number_at(given, 0);
+    let b = number_at(given, 1);
+    match byte_at(line, 0, b' ') {
+        b'f' => session::fresh(a, table),
+        b't' => {
+            let holds = byte_at(line, 5, b' ') == b'y';
+            session::tell(session, table, a, b, holds)
+        }
+        b'a' => {
+            let holds = byte_at(line, 7, b' ') == b'y';
+            session::answer(session, table, a, b, holds)
+        }
+        _ => clips::clip(session, table, clip_of(given)),
+    }
+}
+
 // What a line does on the table lent, and the session after it.
 fn follow(session: Session, table: &mut [u8], line: &[u8]) -> Session {
     let mut given = [0u8; 32];
     let count = numbers(line, &mut given);
-    let a = number_at(&given, 0);
-    let b = number_at(&given, 1);
     let first = byte_at(line, 0, b' ');
     match first {
         b'b' | b'm' => session,
         b's' => Session {
-            classes: a,
-            tests: b,
+            classes: number_at(&given, 0),
+            tests: number_at(&given, 1),
         },
-        b'f' => {
+        b'f' | b't' | b'a' | b'c' => {
             show_call(line);
-            let reply = session::fresh(a, &mut *table);
-            calls::replied(reply, &*table)
-        }
-        b't' => {
-            show_call(line);
-            let holds = byte_at(line, 5, b' ') == b'y';
-            let reply = session::tell(session, &mut *table, a, b, holds);
-            calls::replied(reply, &*table)
-        }
-        b'a' => {
-            show_call(line);
-            let holds = byte_at(line, 7, b' ') == b'y';
-            let reply = session::answer(session, &mut *table, a, b, holds);
+            let reply = change(session, &mut *table, line, &given[..count]);
             calls::replied(reply, &*table)
         }
         b'r' => {

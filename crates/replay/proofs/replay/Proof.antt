@@ -11,11 +11,11 @@ use Rattle.replay.proofs.replay.Statement.{statement}
 use Rattle.replay.proofs.replay.Tie as tie
 
 abbrev Inv-loop : tie.InvT-loop
-Inv-loop classes table₀ calls session₀ i₀ i-end table session i =
-    (i ≤ i-end) × (i-end ≡ length calls / 4) × (length table ≡ length table₀) × Made-so-far session₀ table₀ calls i session table
+Inv-loop classes table₀ numbers flags session₀ i₀ i-end table session i =
+    (i ≤ i-end) × (i-end ≡ length numbers / 4) × (length table ≡ length table₀) × Made-so-far session₀ table₀ numbers flags i session table
 
 abbrev μ-loop : tie.MeasureT-loop
-μ-loop classes table₀ calls session₀ i₀ i-end table session i = i-end - i
+μ-loop classes table₀ numbers flags session₀ i₀ i-end table session i = i-end - i
 
 fresh-requires : tie.Need-fresh-requires Inv-loop μ-loop
 fresh-requires c κs = search needs
@@ -33,7 +33,7 @@ returns c =
     }
 
 loop-holds : tie.Need-loop-holds Inv-loop μ-loop
-loop-holds c = (omega arith, refl, refl, none-made _ _ _)
+loop-holds c = (omega arith, refl, refl, none-made _ _ _ _)
 
 make-requires : tie.Need-make-requires Inv-loop μ-loop
 make-requires c κs = omega arith
@@ -48,7 +48,7 @@ loop-again : tie.Need-loop-again Inv-loop μ-loop
 loop-again c =
     let made = c .before .before .before in
     let passing = made .before .before .before in
-    (omega arith, passing .loop .inv .1, omega arith, one-more _ _ (passing .loop .inv .3) (made .make .ensures))
+    (omega arith, passing .loop .inv .1, omega arith, one-more _ _ _ (passing .loop .inv .3) (made .make .ensures))
 
 accepted-requires : tie.Need-accepted-requires Inv-loop μ-loop
 accepted-requires c κs = search needs
@@ -77,7 +77,7 @@ returns-2 c =
                   accepted = began .if1 .left;
                   run = so-far .run;
                 };
-            same = so-far .same ∙ ap (firstCalls _) (omega arith);
+            same = so-far .same ∙ ap (firstCalls _ _) (omega arith);
           };
     })
 
