@@ -3,7 +3,7 @@
 //! reading as the one exception.
 
 use crate::book;
-use crate::classes::MOST_CLASSES;
+use crate::classes::{pairs, MOST_CLASSES};
 use crate::facts::{Fact, Facts};
 use crate::hierarchy::Hierarchy;
 use crate::marks::{Mark, Marks};
@@ -42,6 +42,13 @@ pub fn answer(session: Session, table: &mut [u8], a: u64, b: u64, yes: bool) -> 
         }
         Err(refusal) => (Err(refusal), session),
     }
+}
+
+/// A trial clip, document 02's item 1: "no member of the set lies under a
+/// non-member". `played` has a flag for each class, set for the members.
+/// "Clips aren't counted as tests." Refusals 1 to 4, then 5, 6.
+pub fn clip(session: Session, table: &mut [u8], played: &[bool; MOST_CLASSES]) -> Reply {
+    (take_clip(session, table, played), session)
 }
 
 /// "Next names the first open pair"; nothing when it says done. Refusals 1 to 4.
@@ -150,6 +157,23 @@ fn take(session: Session, table: &mut [u8], a: u64, b: u64, yes: bool) -> Result
     facts.accept(fact);
     facts.marks().put(table);
     Ok(marks.at(a, b))
+}
+
+/// "The same outcome as telling all those noes one by one, in any order, or
+/// nothing changed if one of them contradicts": they are told on a copy.
+fn take_clip(
+    session: Session,
+    table: &mut [u8],
+    played: &[bool; MOST_CLASSES],
+) -> Result<(), Refusal> {
+    let n = given(session, table)?.n();
+    Refusal::when(played[n..].contains(&true), 5)?;
+    let mut copy = table.to_vec();
+    for (a, b) in pairs(n).filter(|&(a, b)| played[a] && !played[b]) {
+        tell(session, &mut copy, a as u64, b as u64, false).0?;
+    }
+    table.copy_from_slice(&copy);
+    Ok(())
 }
 
 /// Class numbers, a byte each, from the start of a buffer on: "bytes past

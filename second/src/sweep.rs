@@ -4,6 +4,7 @@
 use std::io::{self, Write};
 
 use crate::calls;
+use crate::classes::MOST_CLASSES;
 use crate::draw::{digest, Draw};
 use crate::lines::Lines;
 use crate::refusal::Session;
@@ -92,17 +93,18 @@ impl<W: Write> Sweep<W> {
         self.lines.flush()
     }
 
-    /// A call with trouble: "`k = draw 16` says which, after the trouble."
+    /// A call with trouble: "`k = draw 18` says which, after the trouble."
     fn call(&mut self) -> io::Result<()> {
         let given = self.trouble();
-        match self.draw.index(16) {
+        match self.draw.index(18) {
             0..=4 => self.tell(given),
             5..=8 => self.drawn_answer(given),
             9 | 10 => self.next(given).map(|_| ()),
             11 => self.hierarchy(given),
             12 | 13 => self.ladder(given),
             14 => self.write(given),
-            _ => self.read(given),
+            15 => self.read(given),
+            _ => self.clip(given),
         }
     }
 
@@ -272,6 +274,37 @@ impl<W: Write> Sweep<W> {
         self.lines.session('R', result, session, &digests)?;
         self.put_back(&given);
         Ok(())
+    }
+
+    fn clip(&mut self, given: Given) -> io::Result<()> {
+        let played = self.played();
+        let table = &mut self.table[..given.lent];
+        let (result, session) = calls::clip(given.session, table, &played);
+        let digests = [digest(table)];
+        self.lines.session('C', result, session, &digests)?;
+        self.settle(result.is_ok(), session, &given);
+        Ok(())
+    }
+
+    /// The flags of a clip: any set of classes, or the row of a class c, which
+    /// has c and what is above it; and at times a flag at n or above.
+    fn played(&mut self) -> [bool; MOST_CLASSES] {
+        let n = self.n;
+        let mut played = [false; MOST_CLASSES];
+        if self.draw.index(4) == 0 {
+            for flag in &mut played[..n] {
+                *flag = self.draw.below(2) == 1;
+            }
+        } else {
+            let c = self.draw.index(n);
+            for (b, flag) in played[..n].iter_mut().enumerate() {
+                *flag = self.table[c * n + b] == 1;
+            }
+        }
+        if self.draw.index(8) == 0 {
+            played[n + self.draw.index(MOST_CLASSES - n)] = true;
+        }
+        played
     }
 
     /// "A class number is drawn as `draw (n + 1)` if `draw 8` is 0, and as

@@ -7,6 +7,7 @@ use crate::draw::draw_rooms;
 use crate::draw::draw_rungs;
 use crate::draw::draw_verdict;
 use crate::draw::square;
+use crate::flags::draw_clip;
 use crate::kept::Kept;
 use crate::kept::Sizes;
 use crate::kept::within;
@@ -42,6 +43,20 @@ pub fn tell_or_answer(letter: u8, sizes: Sizes, mut kept: Kept) -> Kept
 {
     let fact = draw_fact(&mut kept.state, sizes.n);
     change(letter, kept, fact)
+}
+
+// With flags that are drawn.
+pub fn clip(sizes: Sizes, mut kept: Kept) -> Kept
+    requires { ⌜ Few (sizes .n) ⌝ }
+{
+    let given = kept.given;
+    let session = given.session;
+    let mut table = kept.table;
+    let drawn = draw_clip(&mut kept.state, &table, sizes.n);
+    let reply = lent::clip(session, given.lent, drawn, &mut table);
+    kept.table = table;
+    let after = reply.session;
+    settle(kept, reply.number, after)
 }
 
 // Without trouble, on the pair that next asks.

@@ -8,6 +8,7 @@ use crate::draw::Rooms;
 use crate::draw::Rungs;
 use crate::kept::within;
 use crate::show;
+use promise::Clip;
 use promise::Reply;
 use promise::Session;
 
@@ -26,6 +27,14 @@ pub fn change(letter: u8, session: Session, lent: usize, fact: Fact, table: &mut
     let marks = within(lent, &*table);
     let reply = make(letter, session, fact, &mut table[..marks]);
     show::reply(letter, reply);
+    show::last(lent, &*table);
+    reply
+}
+
+pub fn clip(session: Session, lent: usize, clip: Clip, table: &mut [u8]) -> Reply {
+    let marks = within(lent, &*table);
+    let reply = dawnhangra::clip(session, &mut table[..marks], clip);
+    show::reply(b'C', reply);
     show::last(lent, &*table);
     reply
 }

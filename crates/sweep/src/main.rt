@@ -2,6 +2,7 @@
 mod answers;
 mod calls;
 mod draw;
+mod flags;
 mod input;
 mod kept;
 mod lent;

@@ -50,14 +50,15 @@ fn call(sizes: Sizes, kept: Kept) -> Kept
     requires { ⌜ Few (sizes .n) ⌝ }
 {
     let mut troubled = trouble(sizes, kept);
-    match draw(&mut troubled.state, 16) {
+    match draw(&mut troubled.state, 18) {
         0..=4 => calls::tell_or_answer(b'T', sizes, troubled),
         5..=8 => calls::tell_or_answer(b'A', sizes, troubled),
         9 | 10 => calls::next(sizes, troubled),
         11 => calls::hierarchy(sizes, troubled),
         12 | 13 => calls::ladder(sizes, troubled),
         14 => calls::write(sizes, troubled),
-        _ => calls::read(sizes, troubled),
+        15 => calls::read(sizes, troubled),
+        _ => calls::clip(sizes, troubled),
     }
 }
 

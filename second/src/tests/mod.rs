@@ -1,8 +1,10 @@
-//! Document 01's worked marks, the bytes of its readings and the protocol of
-//! docs/SWEEP.md. Expected values are typed in from the documents.
+//! Document 01's worked marks, the bytes of its readings, document 02's clips
+//! and the protocol of docs/SWEEP.md. Expected values are typed in from the
+//! documents.
 
 mod books;
 mod calls;
+mod clips;
 mod print;
 mod random;
 mod sweep;

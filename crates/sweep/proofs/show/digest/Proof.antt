@@ -1,7 +1,6 @@
 -- `sweep::show::digest` is safe: the index stays within the bytes.
 -- Assumes nothing.
 use Prim.Native.Nat.{_≤_, _-_}
-use lib.ListN.{length}
 use borrow.Author.Needs.{needs}
 use Rattle.sweep.proofs.show.digest.Statement.{statement}
 use Rattle.sweep.proofs.show.digest.Tie as tie
