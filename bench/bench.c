@@ -52,6 +52,7 @@ struct input {
     size_t pairs;
     struct fact open[FACTS];     // on open pairs of partial
     struct fact agreeing[FACTS]; // on settled pairs of partial
+    uint8_t played[FACTS][MOST]; // clips, each played by a class and all that it is under
     size_t lowest, highest;      // the ends of the longest ladder
     struct book full;            // what write gives for settled
     struct book stepwise;        // answers, each on a pair open until then
@@ -74,6 +75,7 @@ struct program {
     dawnhangra_reply (*fresh)(size_t, uint8_t *, size_t);
     dawnhangra_reply (*tell)(dawnhangra_session, uint8_t *, size_t, size_t, size_t, bool);
     dawnhangra_reply (*answer)(dawnhangra_session, uint8_t *, size_t, size_t, size_t, bool);
+    dawnhangra_reply (*clip)(dawnhangra_session, uint8_t *, size_t, const uint8_t *, size_t);
     dawnhangra_question (*next)(dawnhangra_session, const uint8_t *, size_t);
     dawnhangra_count (*hierarchy)(dawnhangra_session, const uint8_t *, size_t, uint8_t *, size_t, uint8_t *, size_t);
     dawnhangra_count (*ladder)(dawnhangra_session, const uint8_t *, size_t, size_t, size_t, uint8_t *, size_t);
@@ -82,11 +84,11 @@ struct program {
 };
 
 static const struct program LIBRARY = {
-    dawnhangra_fresh, dawnhangra_tell, dawnhangra_answer, dawnhangra_next, dawnhangra_hierarchy, dawnhangra_ladder, dawnhangra_read,
-    dawnhangra_write};
+    dawnhangra_fresh, dawnhangra_tell, dawnhangra_answer, dawnhangra_clip, dawnhangra_next, dawnhangra_hierarchy, dawnhangra_ladder,
+    dawnhangra_read, dawnhangra_write};
 
 static const struct program PLAIN = {
-    plain_fresh, plain_tell, plain_answer, plain_next, plain_hierarchy, plain_ladder, plain_read, plain_write};
+    plain_fresh, plain_tell, plain_answer, plain_clip, plain_next, plain_hierarchy, plain_ladder, plain_read, plain_write};
 
 static void fail(const char *what)
 {
@@ -169,6 +171,17 @@ static void choose_facts(size_t n, const uint8_t *table, const bool *under, bool
     }
 }
 
+// Clips that agree with the order: each is played by a class and all that it is under.
+static void choose_clips(size_t n, const bool *under, uint8_t played[FACTS][MOST])
+{
+    for (size_t i = 0; i < FACTS; i++) {
+        size_t a = pick(n);
+        for (size_t b = 0; b < n; b++) {
+            played[i][b] = under[a * n + b];
+        }
+    }
+}
+
 // Every pair still open is answered in turn, and the answers are noted.
 static void answer_all(size_t n, const bool *under, uint8_t *table, struct book *book)
 {
@@ -222,6 +235,7 @@ static void make_input(struct input *in, size_t n, enum kind kind)
     }
     choose_facts(n, in->partial, under, true, in->open);
     choose_facts(n, in->partial, under, false, in->agreeing);
+    choose_clips(n, under, in->played);
     answer_all(n, under, in->settled, &in->stepwise);
     find_longest(in);
     in->full.length = plain_write(in->session, in->settled, in->pairs, in->full.bytes, sizeof in->full.bytes).count;
@@ -258,6 +272,14 @@ static void run_tell_settled(const struct program *p, const struct input *in, st
     for (size_t i = 0; i < FACTS; i++) {
         const struct fact *f = &in->agreeing[i];
         o->reply = p->tell(in->session, o->table, in->pairs, f->lower, f->upper, f->holds);
+    }
+}
+
+static void run_clip(const struct program *p, const struct input *in, struct outcome *o)
+{
+    for (size_t i = 0; i < FACTS; i++) {
+        memcpy(o->table, in->partial, in->pairs);
+        o->reply = p->clip(in->session, o->table, in->pairs, in->played[i], in->session.classes);
     }
 }
 
@@ -302,6 +324,7 @@ static const struct call {
     {"tell, open pair", run_tell_open, KINDS},
     {"answer, open pair", run_answer_open, KINDS},
     {"tell, settled pair", run_tell_settled, KINDS},
+    {"clip", run_clip, KINDS},
     {"next", run_next, KINDS},
     {"hierarchy", run_hierarchy, KINDS},
     {"ladder, longest", run_ladder, KINDS},
@@ -357,7 +380,7 @@ static void check_run(runner run, const struct input *in)
     }
 }
 
-// A run leaves only what its last fact gave, so each fact has a run in which it is the only one.
+// A run leaves only what its last fact or clip gave, so each has a run in which it is the only one.
 static void check(runner run, const struct input *in)
 {
     static struct input one;
@@ -366,6 +389,7 @@ static void check(runner run, const struct input *in)
         for (size_t j = 0; j < FACTS; j++) {
             one.open[j] = in->open[i];
             one.agreeing[j] = in->agreeing[i];
+            memcpy(one.played[j], in->played[i], sizeof one.played[j]);
         }
         check_run(run, &one);
     }

@@ -201,6 +201,56 @@ dawnhangra_reply plain_answer(
     return take_any(session, table, table_length, lower, upper, holds, true);
 }
 
+// A clip's flags as a set of 0 and 1, and how many classes from n on are flagged.
+static size_t clip_set(size_t n, const uint8_t *played, size_t played_length, uint8_t *restrict set)
+{
+    size_t beyond = 0;
+    memset(set, 0, MOST);
+    for (size_t a = 0; a < played_length; a++) {
+        if (a < n) {
+            set[a] = played[a] != 0;
+        } else {
+            beyond += played[a] != 0;
+        }
+    }
+    return beyond;
+}
+
+// Whether a row is marked yes at a class that is not in the set.
+static bool leaves_set(size_t n, const uint8_t *row, const uint8_t *set)
+{
+    uint8_t found = 0;
+    for (size_t b = 0; b < n; b++) {
+        found |= (row[b] == YES) & !set[b];
+    }
+    return found;
+}
+
+dawnhangra_reply plain_clip(
+    dawnhangra_session session, uint8_t *table, size_t table_length, const uint8_t *played, size_t played_length)
+{
+    size_t n = session.classes, open;
+    uint8_t number = standing(session, table, table_length, &open);
+    if (number != DAWNHANGRA_ACCEPTED) {
+        return replied(number, 0, session);
+    }
+    uint8_t set[MOST];
+    if (clip_set(n, played, played_length, set) != 0) {
+        return replied(DAWNHANGRA_NO_SUCH_CLASS, 0, session);
+    }
+    for (size_t a = 0; a < n; a++) {
+        if (set[a] && leaves_set(n, table + a * n, set)) {
+            return replied(DAWNHANGRA_CONTRADICTED, 0, session);
+        }
+    }
+    for (size_t a = 0; a < n; a++) {
+        for (size_t b = 0; set[a] && b < n; b++) {
+            table[a * n + b] = set[b] ? table[a * n + b] : NO;
+        }
+    }
+    return replied(DAWNHANGRA_ACCEPTED, 0, session);
+}
+
 dawnhangra_question plain_next(dawnhangra_session session, const uint8_t *table, size_t table_length)
 {
     dawnhangra_question question = {0, 0, false, 0, 0};

@@ -12,6 +12,9 @@ dawnhangra_reply plain_tell(
 dawnhangra_reply plain_answer(
     dawnhangra_session session, uint8_t *table, size_t table_length, size_t lower, size_t upper, bool holds);
 
+dawnhangra_reply plain_clip(
+    dawnhangra_session session, uint8_t *table, size_t table_length, const uint8_t *played, size_t played_length);
+
 dawnhangra_question plain_next(dawnhangra_session session, const uint8_t *table, size_t table_length);
 
 dawnhangra_count plain_hierarchy(

@@ -36,8 +36,8 @@ enum dawnhangra_number {
     DAWNHANGRA_SHORT_TABLE = 2,    // the table is shorter than n*n
     DAWNHANGRA_NOT_SOUND = 3,      // the table is not one that facts give
     DAWNHANGRA_OVERCOUNTED = 4,    // tests and open pairs are more than n*n - n together
-    DAWNHANGRA_NO_SUCH_CLASS = 5,  // a class number is n or more
-    DAWNHANGRA_CONTRADICTED = 6,   // the fact is against a mark
+    DAWNHANGRA_NO_SUCH_CLASS = 5,  // a class number, or a class that played a clip, is n or more; a class has no flag
+    DAWNHANGRA_CONTRADICTED = 6,   // the fact, or one of a clip's, is against a mark
     DAWNHANGRA_STILL_OPEN = 7,     // a pair is still open
     DAWNHANGRA_NO_ROOM = 8,        // a buffer is shorter than what is to be written there
     DAWNHANGRA_NO_LADDER = 9,      // lower is not under upper
@@ -55,7 +55,7 @@ typedef struct dawnhangra_session {
     size_t tests;
 } dawnhangra_session;
 
-// What fresh, tell, answer and read give: the number, its place in the book (0 outside books and where accepted), the session to pass on.
+// What fresh, tell, answer, clip and read give: the number, its place in the book (0 outside books and where accepted), the session to pass on.
 typedef struct dawnhangra_reply {
     uint8_t number;
     size_t place;
@@ -89,6 +89,13 @@ dawnhangra_reply dawnhangra_tell(
 // The same for a fact that a test gave: where the pair was open, the session has one test more.
 dawnhangra_reply dawnhangra_answer(
     dawnhangra_session session, uint8_t *table, size_t table_length, size_t lower, size_t upper, bool holds);
+
+// Takes in what a trial clip shows: no class that played it is under one that did not. It is as if all these noes were told one by one, but
+// where one of them is against a mark nothing changes; no test is counted. Played has a flag for each class from 0 on, set where the byte is
+// not 0: n flags, or more up to 128. Refuses with 1 to 4, 5 where there are fewer or more flags or that of a class of n or more is set, 6, and then
+// gives the session back as it came.
+dawnhangra_reply dawnhangra_clip(
+    dawnhangra_session session, uint8_t *table, size_t table_length, const uint8_t *played, size_t played_length);
 
 // Names the first open pair, rows in rising order and then columns. Refuses with 1 to 4.
 dawnhangra_question dawnhangra_next(dawnhangra_session session, const uint8_t *table, size_t table_length);

@@ -1,4 +1,5 @@
-// Five classes of receivers are put in order: some facts are told, the rest is asked of a reasoner, and the order is printed.
+// Five classes of receivers are put in order: some facts are told, a trial clip is played, the rest is asked of a reasoner, and the order is
+// printed.
 #include <stdio.h>
 #include <stdlib.h>
 
@@ -33,11 +34,19 @@ int main(void)
     need(reply.number, "fresh");
 
     // What is known without asking.
-    static const struct { size_t lower, upper; bool holds; } told[] = {{0, 2, true}, {2, 1, true}, {1, 0, false}};
+    static const struct { size_t lower, upper; bool holds; } told[] = {{0, 2, true}, {2, 1, true}};
     for (size_t i = 0; i < sizeof told / sizeof *told; i++) {
         reply = dawnhangra_tell(reply.session, table, sizeof table, told[i].lower, told[i].upper, told[i].holds);
         need(reply.number, "tell");
     }
+
+    // The lab played a clip of the second kind on every receiver.
+    uint8_t played[RECEIVERS];
+    for (size_t i = 0; i < RECEIVERS; i++) {
+        played[i] = (PLAYS[i] & 2) != 0;
+    }
+    reply = dawnhangra_clip(reply.session, table, sizeof table, played, sizeof played);
+    need(reply.number, "clip");
 
     // Ask as long as a pair is open.
     for (;;) {
