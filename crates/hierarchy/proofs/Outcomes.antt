@@ -8,7 +8,7 @@ use native.Mathlib.Omega.{arith}
 use lib.ListN.{length, getD, take, drop}
 use lib.Seq.{length-take-le, getD-take, take-at}
 use Rattle.order.specs.Tables.{Sound, opens}
-use Rattle.order.specs.Pairs.{Pair, bytesOf}
+use Rattle.order.specs.Pairs.{bytesOf}
 use Rattle.order.specs.Refusals.{First}
 use Rattle.order.proofs.Pairs.{length-bytes}
 use Rattle.promise.specs.declared.Session.{Session}

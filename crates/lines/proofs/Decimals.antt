@@ -1,13 +1,13 @@
 -- The numbers that are written read back as what they are, and have no leading zero.
 -- Assumes nothing.
-use mathlib.Core.Path.{_≡_, refl, _∙_, ap, ap₂}
+use mathlib.Core.Path.{_≡_}
 use mathlib.Core.Logic.{_≢_}
-use mathlib.Core.List.{List, [], _∷_, _++_}
+use mathlib.Core.List.{List, [], _∷_}
 use Prim.Native.Nat.{ℕ, _+_, _-_, _*_, _/_, _%_, _<_, _≤_}
 use native.Mathlib.Decide.{decLt}
 use native.Mathlib.Omega.{arith}
 use lib.ListN.{getD}
-use Rattle.lines.specs.Lines.{digit-0, digit, decimal}
+use Rattle.lines.specs.Lines.{digit-0, decimal}
 use Rattle.lines.proofs.Putting.{digit-left-out, digit-stands}
 
 -- the number that digits make, behind those that made v

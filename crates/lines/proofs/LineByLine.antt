@@ -8,7 +8,7 @@ use native.Mathlib.Omega.{arith}
 use lib.ListN.{length, getD, take, length-append}
 use lib.Seq.{take-suc, take-all, length-take-le}
 use Rattle.order.specs.Pairs.{Pair, bytesOf}
-use Rattle.lines.specs.Lines.{decimal, spaced, labelled, line, line-feed, capital-C, capital-E, classLines, stepLines}
+use Rattle.lines.specs.Lines.{spaced, labelled, line, line-feed, capital-C, capital-E, classLines, stepLines}
 use Rattle.lines.specs.Put.{Put, pairsIn}
 use Rattle.lines.proofs.Putting.{put-none, put-then, decimal-short}
 

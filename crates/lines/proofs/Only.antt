@@ -1,7 +1,6 @@
 -- What is written is fixed: two texts for one input are equal.
 -- Assumes nothing.
 use mathlib.Core.Path.{_≡_, sym, _∙_, ap₂, subst}
-use mathlib.Core.Logic.{_≢_}
 use mathlib.Core.List.{List, _++_}
 use Prim.Native.Nat.{ℕ}
 use native.Mathlib.Decide.{ℕ-discrete}

@@ -8,7 +8,6 @@ use native.Mathlib.Omega.{arith}
 use lib.Dec.{T, ltb, ltb→lt, lt→ltb}
 use lib.ListN.{length, set, take, drop, length-append, length-drop, take-append-drop}
 use lib.Seq.{length-take-le, sets-eq, take-at, drop-append-add, drop-drop}
-use Rattle.book.specs.Fields.{Placed}
 use Rattle.lines.specs.Lines.{unless, digit, decimal, digit-0}
 use Rattle.lines.specs.Put.{Put}
 

@@ -1,7 +1,7 @@
 -- What next and hierarchy give where refusals 1 to 4 are not due, and what is then said of the table.
 -- Assumes nothing.
-use mathlib.Core.Path.{_≡_, refl, sym, _∙_, ap, subst}
-use mathlib.Core.Logic.{_≢_, _⊎_, inl, inr}
+use mathlib.Core.Path.{_≡_, refl, sym, _∙_, ap}
+use mathlib.Core.Logic.{_≢_, inl, inr}
 use mathlib.Core.List.{List, [], _∷_, _++_}
 use Prim.Native.Nat.{ℕ, _+_, _*_, _≤_, _<_}
 use native.Mathlib.Omega.{arith}
@@ -9,7 +9,7 @@ use native.Mathlib.Nat.{mul-le-mul, min-le-left}
 use lib.ListN.{length, take, length-append, length-take}
 use lib.Seq.{take-at}
 use Rattle.order.specs.Tables.{opens}
-use Rattle.order.specs.Pairs.{Pair, bytesOf}
+use Rattle.order.specs.Pairs.{bytesOf}
 use Rattle.order.specs.Refusals.{First}
 use Rattle.promise.specs.declared.Session.{Session}
 use Rattle.promise.specs.declared.Reply.{Reply}
@@ -18,9 +18,9 @@ use Rattle.promise.specs.declared.Question.the-variants.{Ask, Done, Refused}
 use Rattle.promise.specs.declared.Wrote.{Wrote}
 use Rattle.promise.specs.declared.Wrote.the-variants.{Count}
 use Rattle.promise.specs.Refusals.{standing}
-use Rattle.promise.specs.Buffers.{over, numberOf}
+use Rattle.promise.specs.Buffers.{over}
 use Rattle.promise.specs.Next.{FirstOpen, Asked}
-use Rattle.promise.specs.Hierarchy.{HeadsOf, StepsOf, hierarchyRefusals, HierarchyWritten}
+use Rattle.promise.specs.Hierarchy.{hierarchyRefusals, HierarchyWritten}
 use Rattle.promise.proofs.Standing.{Stands, standing-passed, stands-first}
 use Rattle.promise.proofs.Next.{done-exactly}
 use Rattle.promise.proofs.Triangles.{steps-few, hierarchy-room}

@@ -1,13 +1,13 @@
 -- What reading leaves can be used: its class count is at most 128, and its marks alone stand for its table.
 -- Assumes nothing.
 use mathlib.Core.Path.{_≡_, refl, sym, _∙_, ap₂}
-use mathlib.Core.Logic.{_≢_, ⊎-elim}
+use mathlib.Core.Logic.{⊎-elim}
 use mathlib.Core.List.{List, []}
 use Prim.Native.Nat.{ℕ, zero, suc, _+_, _*_, _≤_, _<_}
 use native.Mathlib.Omega.{arith}
-use lib.ListN.{length, take}
+use lib.ListN.{take}
 use lib.Seq.{getD-take, length-take-le}
-use Rattle.order.specs.Tables.{mark, Sound, isOpen, opensTo, opens}
+use Rattle.order.specs.Tables.{mark, isOpen, opensTo}
 use Rattle.order.specs.Refusals.{First}
 use Rattle.order.proofs.Bytes.{pair-below}
 use Rattle.promise.specs.declared.Session.{Session}

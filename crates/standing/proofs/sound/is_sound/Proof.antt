@@ -1,7 +1,6 @@
 -- `standing::sound::is_sound` meets its contract: every pair passed has what soundness asks of it.
 -- Assumes nothing.
 use mathlib.Core.Path.{refl}
-use mathlib.Core.List.{List}
 use Prim.Native.Nat.{ℕ, _<_, _-_}
 use native.Mathlib.Omega.{arith}
 use borrow.Author.Needs.{needs}
