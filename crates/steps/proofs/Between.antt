@@ -12,8 +12,8 @@ use borrow.Author.Tests.{eqb-true, eq-eqb}
 use lib.Dec.{eqb}
 use lib.ListN.{length, getD, set, length-set, replicate, length-replicate, getD-replicate}
 use lib.Seq.{getD-set-same, getD-set-other}
-use Rattle.order.specs.Tables.{mark}
-use Rattle.promise.specs.Hierarchy.{Under, Third, Head, Direct}
+use Rattle.order.specs.Tables.{mark, Sound}
+use Rattle.promise.specs.Hierarchy.{Under, Equal, Third, Head, Direct}
 use Rattle.promise.proofs.Hierarchy.{direct?}
 use Rattle.marks.specs.Shape.{IndexOf}
 use Rattle.marks.proofs.Shape.{row-reads}
@@ -141,6 +141,42 @@ module _ {n : ℕ} {t : List ℕ} {a : ℕ} {flags₀ : List Bool} where
             let above : HeadAbove n t a c = record { head = p .head; differ = p .not-lower; under = p .above } in
             absurd (not-above (rw e at above))
         back b c z p (no e) = omega arith
+
+    -- the flag of k is up: the third head d between a and k stands between a and whatever k does
+    pub thirds-known : Sound n t → getD flags k false ≡ true → ThirdsBelow n t a flags₀ flags (k + 1)
+    thirds-known sound up =
+        record {
+          most = omega arith;
+          size = h .size;
+          at = λ b l. (
+            λ p. let q = h .at b l .0 p in (q .0, omega (arith, q .1), q .2),
+            λ p. back b l (p .0) (p .1) (p .2) (ℕ-discrete (p .0) k),
+          );
+        }
+      where
+        lower : (d : ℕ) × (d < k) × Third n t a k d
+        lower = h .at k below .0 up
+
+        -- two heads of one group are one
+        same : (c d : ℕ) → Head n t c → Head n t d → Equal n t c d → c ≡ d
+        same c d p q e =
+            omega (arith, p .lowest d (q .below) e, q .lowest c (p .below) (e .1, e .0))
+
+        third : (b : ℕ) → b < n → Third n t a b k → Third n t a b (lower .0)
+        third b l p =
+            let d = lower .0 in
+            let q = lower .2 in
+            record {
+              head = q .head;
+              not-lower = q .not-lower;
+              not-upper = λ e. q .not-upper (same d k (q .head) (p .head) (q .under, rw (← e) at (p .under)));
+              above = q .above;
+              under = sound .transitive d k b (q .head .below) below l (q .under) (p .under);
+            }
+
+        back : (b : ℕ) → b < n → (c : ℕ) → c < k + 1 → Third n t a b c → Dec (c ≡ k) → getD flags b false ≡ true
+        back b l c z p (yes e) = h .at b l .1 (lower .0, lower .1, third b l (rw e at p))
+        back b l c z p (no e) = h .at b l .1 (c, omega arith, p)
 
   pub thirds-all :
       {flags : List Bool} {k : ℕ} → n ≤ length flags₀ → n ≤ k → ThirdsBelow n t a flags₀ flags k → ThirdsOf n t a flags

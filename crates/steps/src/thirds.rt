@@ -12,19 +12,19 @@ ghost use Rattle.marks.specs.Shape.{Shape};
 ghost use Rattle.steps.specs.Found.{Found};
 ghost use Rattle.steps.specs.Between.{HeadAbove, RowAdded, ThirdAdded, NoneYet, ThirdsOf};
 
-// Whether c is a head above a, and not a itself.
+// Whether c is a head above a, and not a itself. Few classes are above one, so that is asked first.
 pub fn is_above(n: usize, table: &[u8], heads: &[u8], a: usize, c: usize) -> bool
     requires { ⌜ (Found n (now table) (now heads)) × (a < n) × (c < n) ⌝ }
     ensures { λ r. ⌜ (r ≡ true) ↔ HeadAbove n (now (table .entry)) a c ⌝ }
 {
+    let above = under(n, table, a, c);
+    if !above {
+        return false;
+    }
     if c == a {
         return false;
     }
-    let head = is_head(heads, c);
-    if !head {
-        return false;
-    }
-    under(n, table, a, c)
+    is_head(heads, c)
 }
 
 // The flag of each class that c is under goes up. There is no branch in the loop, so that the compiler makes vector code of it.
@@ -48,7 +48,8 @@ fn add_third(n: usize, table: &[u8], c: usize, thirds: &mut [bool])
     thirds[c] = own;
 }
 
-// The flag of b goes up exactly where a third head stands between a and b.
+// The flag of b goes up exactly where a third head stands between a and b. A head whose own flag is up is passed over: another third head is
+// under it, and so under all that it is under.
 pub fn find_thirds(n: usize, table: &[u8], heads: &[u8], a: usize, thirds: &mut [bool])
     requires { ⌜ (Found n (now table) (now heads)) × (a < n) × (NoneYet n (now thirds)) ⌝ }
     ensures { λ _. ⌜ ThirdsOf n (now (table .entry)) a (now (thirds .exit)) ⌝ }
@@ -56,7 +57,9 @@ pub fn find_thirds(n: usize, table: &[u8], heads: &[u8], a: usize, thirds: &mut 
     for c in 0..n {
         let above = is_above(n, table, heads, a, c);
         if above {
-            add_third(n, table, c, &mut *thirds);
+            if !thirds[c] {
+                add_third(n, table, c, &mut *thirds);
+            }
         }
     }
 }

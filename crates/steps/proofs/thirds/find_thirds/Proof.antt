@@ -4,8 +4,9 @@ use mathlib.Core.Logic.{⊎-elim}
 use Prim.Native.Nat.{_-_}
 use native.Mathlib.Omega.{arith}
 use borrow.Author.Needs.{needs}
+use borrow.Author.Tests.{not-false}
 use Rattle.marks.proofs.Answers.{refuted}
-use Rattle.steps.proofs.Between.{ThirdsBelow, thirds-none, thirds-add, thirds-pass, thirds-all}
+use Rattle.steps.proofs.Between.{ThirdsBelow, thirds-none, thirds-add, thirds-pass, thirds-known, thirds-all}
 use Rattle.steps.proofs.thirds.find_thirds.Statement.{statement}
 use Rattle.steps.proofs.thirds.find_thirds.Tie as tie
 
@@ -21,11 +22,18 @@ loop-holds c = thirds-none (c .before .before .before .pre .2)
 is-above-requires : tie.Need-is-above-requires Inv-loop μ-loop
 is-above-requires c κs = search needs
 
+slice-read-if2 : tie.Need-slice-read-if2 Inv-loop μ-loop
+slice-read-if2 c =
+    let passing = c .before .before .before in
+    let l = passing .before in
+    omega (arith, passing .loop-test .taken, l .before .before .before .before .pre .2 .room, l .loop .inv .size)
+
 add-third-requires : tie.Need-add-third-requires Inv-loop μ-loop
 add-third-requires c κs =
-    let l = c .before .before .before .before in
+    let passing = c .before .before .before .before .before in
+    let l = passing .before in
     let p = l .before .before .before .before .pre in
-    (p .0 .ordered .shape, c .before .before .before .loop-test .taken, omega (arith, p .2 .room, l .loop .inv .size))
+    (p .0 .ordered .shape, passing .loop-test .taken, omega (arith, p .2 .room, l .loop .inv .size))
 
 add-c : tie.Need-add-c Inv-loop μ-loop
 add-c c = omega arith
@@ -35,10 +43,14 @@ loop-less c = omega arith
 
 loop-again : tie.Need-loop-again Inv-loop μ-loop
 loop-again c =
-    let h = c .before .before .before .loop .inv in
+    let l = c .before .before .before in
+    let h = l .loop .inv in
     let above = c .before .is-above .ensures in
-    ⊎-elim (λ w. rw (w .5) (thirds-add (omega arith) h (above .0 (w .0 .taken)) (w .2 .kept .1 .1 .1 .0) (w .2 .ensures)))
-    (λ w. rw (w .1) (thirds-pass (omega arith) h (refuted (w .0 .left) above))) (c .if1 .came)
+    let sound = l .before .before .before .before .pre .0 .ordered .sound in
+    ⊎-elim
+    (λ w. rw (w .7) (thirds-add (omega arith) h (above .0 (w .0 .taken)) (w .4 .kept .1 .1 .1 .0) (w .4 .ensures)))
+    (⊎-elim (λ w. rw (w .3) (thirds-known (omega arith) h sound (not-false _ (w .2 .left))))
+    (λ w. rw (w .1) (thirds-pass (omega arith) h (refuted (w .0 .left) above)))) (c .if1 .came)
 
 same-length : tie.Need-same-length Inv-loop μ-loop
 same-length c = c .before .loop .inv .size
@@ -54,6 +66,7 @@ find-thirds-spec =
     μ-loop
     loop-holds
     is-above-requires
+    slice-read-if2
     add-third-requires
     add-c
     loop-less

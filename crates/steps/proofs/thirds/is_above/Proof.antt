@@ -6,31 +6,30 @@ use Rattle.steps.proofs.Found.{head-at}
 use Rattle.steps.proofs.thirds.is_above.Statement.{statement}
 use Rattle.steps.proofs.thirds.is_above.Tie as tie
 
+under-requires : tie.Need-under-requires
+under-requires c κs = search needs
+
 returns : tie.Need-returns
-returns c = never (λ h. h .differ (c .if1 .taken))
+returns c = never (λ h. denied (c .if1 .taken) (c .before .under .ensures) (h .under))
+
+returns-2 : tie.Need-returns-2
+returns-2 c = never (λ h. h .differ (c .if2 .taken))
 
 is-head-requires : tie.Need-is-head-requires
 is-head-requires c κs = search needs
 
-returns-2 : tie.Need-returns-2
-returns-2 c =
-    let p = c .before .before .before .before .before .pre in
-    never (λ h. denied (c .if2 .taken) (c .before .is-head .ensures) (head-at (p .0) (p .2) .1 (h .head)))
-
-under-requires : tie.Need-under-requires
-under-requires c κs = search needs
-
 returns-3 : tie.Need-returns-3
 returns-3 c =
-    let p = c .before .before .before .before .before .before .pre in (
+    let above = c .before .before in
+    let p = above .before .before .before .before .pre in (
       λ e.
           record {
-            head = head-at (p .0) (p .2) .0 (granted (c .before .if2 .left) (c .before .before .is-head .ensures));
-            differ = c .before .before .before .if1 .left;
-            under = c .under .ensures .0 e;
+            head = head-at (p .0) (p .2) .0 (c .is-head .ensures .0 e);
+            differ = c .before .if2 .left;
+            under = granted (above .if1 .left) (above .before .under .ensures);
           },
-      λ h. c .under .ensures .1 (h .under),
+      λ h. c .is-head .ensures .1 (head-at (p .0) (p .2) .1 (h .head)),
     )
 
 pub is-above-spec : {M : Type 1} → statement M
-is-above-spec = tie.close (tie.spec returns is-head-requires returns-2 under-requires returns-3)
+is-above-spec = tie.close (tie.spec under-requires returns returns-2 is-head-requires returns-3)
