@@ -22,15 +22,15 @@ pub data FieldAt (book : List ℕ) : ℕ → Type 0 where
 -- what the tag of a field makes of a fact at place p in it: how it is taken, and its verdict
 abbrev pub TakenAs : Tag → List ℕ → ℕ → Kind → ℕ → Type 0
 TakenAs Tag.class-count book p kind v = ⊥
-TakenAs Tag.yes-facts book p kind v = (kind ≡ Kind.tell) × (v ≡ 1)
-TakenAs Tag.no-facts book p kind v = (kind ≡ Kind.tell) × (v ≡ 0)
-TakenAs Tag.answers book p kind v = (kind ≡ Kind.answer) × (v ≡ getD book (p + 2) 0)
+TakenAs Tag.yes-facts book p kind v = (kind ≡ Kind.told) × (v ≡ 1)
+TakenAs Tag.no-facts book p kind v = (kind ≡ Kind.told) × (v ≡ 0)
+TakenAs Tag.answers book p kind v = (kind ≡ Kind.answered) × (v ≡ getD book (p + 2) 0)
 TakenAs Tag.unknown book p kind v = ⊥
 
 -- how many bytes a fact has
 abbrev pub width : Kind → ℕ
-width Kind.tell = 2
-width Kind.answer = 3
+width Kind.told = 2
+width Kind.answered = 3
 
 -- the fact at place p: its two classes are the bytes there, and it stands in a whole field whose tag says how it is taken
 pub record SaidAt (book : List ℕ) (p : ℕ) (kind : Kind) (a b v : ℕ) : Type 0 where
@@ -143,7 +143,7 @@ module _ (book : List ℕ) (q : ℕ) (is-field : FieldAt book q) (whole : q + 3 
       }
 
   tells-said :
-      (v p : ℕ) (bytes : List ℕ) → ((p : ℕ) → TakenAs (tagOf (getD book q 0)) book p Kind.tell v) → q + 3 ≤ p
+      (v p : ℕ) (bytes : List ℕ) → ((p : ℕ) → TakenAs (tagOf (getD book q 0)) book p Kind.told v) → q + 3 ≤ p
       → p + length bytes ≤ after → BytesAt book p bytes → Said book p after (tellsFrom v p bytes)
   unfolding tellsFrom
   tells-said v p [] taken from to h = omega arith

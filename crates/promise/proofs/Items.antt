@@ -116,7 +116,7 @@ contents-slice (suc n) m (x ∷ l) = rw (suc-add n m) (contents-slice n m l)
 pub tells-step :
     (v p e : ℕ) (book : List ℕ) → p + 2 ≤ e → e ≤ length book
     → tellsFrom v p (slice p e book)
-    ≡ Item.said p Kind.tell (getD book p 0) (getD book (p + 1) 0) v ∷ tellsFrom v (p + 2) (slice (p + 2) e book)
+    ≡ Item.said p Kind.told (getD book p 0) (getD book (p + 1) 0) v ∷ tellsFrom v (p + 2) (slice (p + 2) e book)
 unfolding tellsFrom
 tells-step v p e book h k =
     let a = slice-cons p e book 0 (omega arith) k in
@@ -126,7 +126,7 @@ tells-step v p e book h k =
 pub answers-step :
     (p e : ℕ) (book : List ℕ) → p + 3 ≤ e → e ≤ length book
     → answersFrom p (slice p e book)
-    ≡ Item.said p Kind.answer (getD book p 0) (getD book (p + 1) 0) (getD book (p + 2) 0)
+    ≡ Item.said p Kind.answered (getD book p 0) (getD book (p + 1) 0) (getD book (p + 2) 0)
     ∷ answersFrom (p + 3) (slice (p + 3) e book)
 unfolding answersFrom
 answers-step p e book h k =

@@ -135,7 +135,7 @@ rounds-bounded {k} {s} {s′} {t} {t′} st (Rounds.round {k = j} {a = a} {b = b
     let e = asked-accepted q h in
     let i = rounds-bounded (leaves-keeps (tell-leaves h e) st) later in
     let o = tell-opens h 0 e in
-    let one : adds Kind.answer 0 (mark (s .classes) t a b) ≡ 1 = ap (adds Kind.answer 0) (q .says .is-open) in
+    let one : adds Kind.answered 0 (mark (s .classes) t a b) ≡ 1 = ap (adds Kind.answered 0) (q .says .is-open) in
     let le : j + opens (s .classes) t′ ≤ opens (s .classes) t₁ =
     subst (λ (n : ℕ). j + opens n t′ ≤ opens n t₁) (o .0) (i .2)
     in
@@ -146,7 +146,7 @@ pub rounds-tests :
     {k : ℕ} {s s′ : Session} {t t′ : List ℕ} → Rounds k s t s′ t′ → s′ .tests ≡ s .tests + k
 rounds-tests Rounds.none = omega arith
 rounds-tests {s = s} {t = t} (Rounds.round {a = a} {b = b} q h later) =
-    let one : adds Kind.answer 0 (mark (s .classes) t a b) ≡ 1 = ap (adds Kind.answer 0) (q .says .is-open) in
+    let one : adds Kind.answered 0 (mark (s .classes) t a b) ≡ 1 = ap (adds Kind.answered 0) (q .says .is-open) in
     omega (arith, rounds-tests later, tell-opens h 0 (asked-accepted q h) .1)
 
 -- "So asking and answering the pair asked ends after at most as many answers as there were open pairs": after k rounds next says done,

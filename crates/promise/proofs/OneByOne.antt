@@ -94,7 +94,7 @@ clip-listed n played = (noesOf pairs, λ f. (λ h. there f h, λ i. back f (noes
 
 abbrev pub tellsOf : List Fact → List Call
 tellsOf [] = []
-tellsOf (f ∷ l) = Call.take Kind.tell f ∷ tellsOf l
+tellsOf (f ∷ l) = Call.take Kind.told f ∷ tellsOf l
 
 tells-said : (n : ℕ) (l : List Fact) (f : Fact) → Said n (tellsOf l) f ↔ Listed l f
 tells-said n [] f = (λ i. absurd i, λ i. absurd (List·Memᴰ·not-nil i))
@@ -136,7 +136,7 @@ tells-same [] (Run.call h number run) e = absurd (omega (arith, ap length e))
 tells-same (f ∷ l) {s} {s′} {t} (Run.call {m = m} {t₁ = t₁} {r = r} h number run) e =
     tells-same l run (ap rest e) ∙ told (subst (λ (c : Call). Makes c s t r t₁) (same-first e) h)
   where
-    told : Makes (Call.take Kind.tell f) s t r t₁ → r .session ≡ s
+    told : Makes (Call.take Kind.told f) s t r t₁ → r .session ≡ s
     told (Makes.took took) = told-same took
 
 -- "with the same outcome as telling all those noes one by one, in any order, or nothing changed if one of them contradicts": for every list

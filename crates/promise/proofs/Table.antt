@@ -140,29 +140,29 @@ rows =
     ∷ Row.open-pairs 3 p2 6
     ∷ Row.next (three 0) p2 (Ask 0 1)
     -- P3
-    ∷ Row.took Kind.tell (three 0) p2 (notUnder 0 2) (accepted (three 0)) p3
+    ∷ Row.took Kind.told (three 0) p2 (notUnder 0 2) (accepted (three 0)) p3
     ∷ Row.open-pairs 3 p3 5
     -- P4
-    ∷ Row.took Kind.tell (three 0) p3 (under 0 1) (accepted (three 0)) p4
+    ∷ Row.took Kind.told (three 0) p3 (under 0 1) (accepted (three 0)) p4
     ∷ Row.open-pairs 3 p4 3
     -- P5
-    ∷ Row.took Kind.tell (three 0) p4 (under 1 2) (refused 6 0 (three 0)) p4
+    ∷ Row.took Kind.told (three 0) p4 (under 1 2) (refused 6 0 (three 0)) p4
     -- P6
-    ∷ Row.took Kind.tell (three 0) p2 (under 0 1) (accepted (three 0)) afterYes
-    ∷ Row.took Kind.tell (three 0) afterYes (under 1 2) (accepted (three 0)) p6
+    ∷ Row.took Kind.told (three 0) p2 (under 0 1) (accepted (three 0)) afterYes
+    ∷ Row.took Kind.told (three 0) afterYes (under 1 2) (accepted (three 0)) p6
     ∷ Row.open-pairs 3 p6 3
     -- P7
-    ∷ Row.took Kind.tell (three 0) p6 (notUnder 2 0) (accepted (three 0)) p7
+    ∷ Row.took Kind.told (three 0) p6 (notUnder 2 0) (accepted (three 0)) p7
     ∷ Row.open-pairs 3 p7 2
     ∷ Row.next (three 0) p7 (Ask 1 0)
     -- P8
-    ∷ Row.took Kind.tell (three 0) p7 (under 2 1) (accepted (three 0)) p8
+    ∷ Row.took Kind.told (three 0) p7 (under 2 1) (accepted (three 0)) p8
     ∷ Row.next (three 0) p8 Done
     ∷ Row.hierarchy (three 0) p8 (nines 4) (nines 3) (Count 1) (0 ∷ 1 ∷ 1 ∷ 9 ∷ []) (0 ∷ 1 ∷ 9 ∷ [])
     -- P9
-    ∷ Row.took Kind.tell (three 0) p2 (notUnder 1 1) (refused 6 0 (three 0)) p2
+    ∷ Row.took Kind.told (three 0) p2 (notUnder 1 1) (refused 6 0 (three 0)) p2
     -- P10
-    ∷ Row.took Kind.answer (three 0) p2 (under 1 1) (accepted (three 0)) p2
+    ∷ Row.took Kind.answered (three 0) p2 (under 1 1) (accepted (three 0)) p2
     -- P11
     ∷ Row.read (1 ∷ 0 ∷ 1 ∷ 4 ∷ 2 ∷ 0 ∷ 8 ∷ 0 ∷ 1 ∷ 0 ∷ 2 ∷ 1 ∷ 3 ∷ 2 ∷ 3 ∷ 3 ∷ 0 ∷ 4 ∷ 1 ∷ 2 ∷ 2 ∷ 1 ∷ []) (nines 16) (accepted four) p11
     ∷ Row.hierarchy four p11 (nines 4) (nines 8) (Count 4) (0 ∷ 1 ∷ 2 ∷ 3 ∷ []) (0 ∷ 1 ∷ 0 ∷ 2 ∷ 1 ∷ 3 ∷ 2 ∷ 3 ∷ [])
@@ -172,8 +172,8 @@ rows =
     ∷ Row.write (three 0) p8 (nines 22) (Count 22) p12
     ∷ Row.read p12 (nines 9) (accepted (three 0)) p8
     -- an answer counts on an open pair, not on a settled one
-    ∷ Row.took Kind.answer (three 0) p7 (under 2 1) (accepted (three 1)) p8
-    ∷ Row.took Kind.answer (three 1) p8 (under 0 2) (accepted (three 1)) p8
+    ∷ Row.took Kind.answered (three 0) p7 (under 2 1) (accepted (three 1)) p8
+    ∷ Row.took Kind.answered (three 1) p8 (under 0 2) (accepted (three 1)) p8
     -- class counts and tables
     ∷ Row.fresh 0 (nines 1) (refused 1 0 nothing) (nines 1)
     ∷ Row.fresh 129 (nines 1) (refused 1 0 nothing) (nines 1)
@@ -184,7 +184,7 @@ rows =
     ∷ Row.next (three 0) (1 ∷ 3 ∷ 0 ∷ 0 ∷ 1 ∷ 0 ∷ 0 ∷ 0 ∷ 1 ∷ []) (Question.Refused 3 0)
     ∷ Row.next (three 1) p2 (Question.Refused 4 0)
     ∷ Row.next (three 6) p8 Done
-    ∷ Row.took Kind.tell (three 0) p4 (under 0 5) (refused 5 0 (three 0)) p4
+    ∷ Row.took Kind.told (three 0) p4 (under 0 5) (refused 5 0 (three 0)) p4
     -- buffers that just fit, and one byte less; the order of refusals
     ∷ Row.hierarchy four p11 (nines 4) (nines 7) (Refused 8 0) (nines 4) (nines 7)
     ∷ Row.hierarchy four p11 (nines 3) (nines 8) (Refused 8 0) (nines 3) (nines 8)
@@ -237,12 +237,12 @@ rows =
     ∷ Row.read (1 ∷ 0 ∷ 1 ∷ 3 ∷ 4 ∷ 0 ∷ 9 ∷ 0 ∷ 1 ∷ 1 ∷ 0 ∷ 2 ∷ 0 ∷ 1 ∷ 1 ∷ 1 ∷ []) (nines 9) (accepted (three 2)) p4
     ∷ Row.read (1 ∷ 0 ∷ 1 ∷ 1 ∷ emptyFields 21 (9 ∷ 0 ∷ 0 ∷ [])) (nines 1) (refused 11 67 (started 1)) (1 ∷ [])
     -- the order of refusals outside books, and sessions given back
-    ∷ Row.took Kind.tell (record { classes = 129; tests = 5 }) [] (under 0 0) (refused 1 0 (record { classes = 129; tests = 5 })) []
+    ∷ Row.took Kind.told (record { classes = 129; tests = 5 }) [] (under 0 0) (refused 1 0 (record { classes = 129; tests = 5 })) []
     ∷ Row.next (three 7) (1 ∷ 1 ∷ 0 ∷ 0 ∷ 1 ∷ 1 ∷ 0 ∷ 0 ∷ 1 ∷ []) (Question.Refused 3 0)
-    ∷ Row.took Kind.tell (three 1) p2 (under 0 3) (refused 4 0 (three 1)) p2
-    ∷ Row.took Kind.tell (three 0) p2 (under 3 0) (refused 5 0 (three 0)) p2
-    ∷ Row.took Kind.answer (three 0) p4 (under 1 2) (refused 6 0 (three 0)) p4
-    ∷ Row.took Kind.answer (three 0) p3 (under 0 1) (accepted (three 1)) p4
+    ∷ Row.took Kind.told (three 1) p2 (under 0 3) (refused 4 0 (three 1)) p2
+    ∷ Row.took Kind.told (three 0) p2 (under 3 0) (refused 5 0 (three 0)) p2
+    ∷ Row.took Kind.answered (three 0) p4 (under 1 2) (refused 6 0 (three 0)) p4
+    ∷ Row.took Kind.answered (three 0) p3 (under 0 1) (accepted (three 1)) p4
     ∷ Row.hierarchy (started 2) oneOpen (nines 2) (nines 2) (Refused 7 0) (nines 2) (nines 2)
     ∷ Row.ladder (started 2) oneOpen 0 0 (nines 2) (Refused 7 0) (nines 2)
     ∷ Row.ladder four p11 0 2 (nines 2) (Count 2) (0 ∷ 2 ∷ [])

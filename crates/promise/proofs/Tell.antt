@@ -110,9 +110,9 @@ agreeing-took kind {s} {t} {f} st m =
     }
   where
     none-added : (kind : Kind) (k : ℕ) → k ≢ 0 → adds kind 0 k ≡ 0
-    none-added Kind.tell k z = refl
-    none-added Kind.answer zero z = absurd (z refl)
-    none-added Kind.answer (suc k) z = refl
+    none-added Kind.told k z = refl
+    none-added Kind.answered zero z = absurd (z refl)
+    none-added Kind.answered (suc k) z = refl
 
     settled : mark (s .classes) t (f .lower) (f .upper) ≢ 0
     settled z = mark-for-settled (f .holds) (sym (m .settled) ∙ z)
@@ -139,16 +139,16 @@ tell-opens {kind} {s} {t} {f} {r} {t′} h zero e =
     )
   where
     few : (kind : Kind) (m : ℕ) → adds kind 0 m ≤ isOpen m
-    few Kind.tell m = omega arith
-    few Kind.answer zero = omega arith
-    few Kind.answer (suc m) = omega arith
+    few Kind.told m = omega arith
+    few Kind.answered zero = omega arith
+    few Kind.answered (suc m) = omega arith
 tell-opens {kind} {s} {t} {f} {r} {t′} h (suc k) e =
     let q = h .replies .refused (λ z. omega arith) in
     rw (q .0, q .1, none kind) (refl, omega arith, omega arith)
   where
     none : (kind : Kind) → adds kind (suc k) (mark (s .classes) t (f .lower) (f .upper)) ≡ 0
-    none Kind.tell = refl
-    none Kind.answer = refl
+    none Kind.told = refl
+    none Kind.answered = refl
 
 -- what an accepted fact leaves
 pub tell-leaves :

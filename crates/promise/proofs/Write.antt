@@ -401,7 +401,7 @@ books-equal {n} {t} {u} {book} {book₂} ht hu k k₂ = (λ e. record { at = sam
 abbrev AllTold : Facts → List Item → Type 0
 AllTold S [] = Unit {0}
 AllTold S (Item.begin p m ∷ items) = ⊥
-AllTold S (Item.said p kind a b v ∷ items) = (kind ≡ Kind.tell) × (v ≤ 1) × S (factOf a b v) × AllTold S items
+AllTold S (Item.said p kind a b v ∷ items) = (kind ≡ Kind.told) × (v ≤ 1) × S (factOf a b v) × AllTold S items
 AllTold S (Item.fault p k ∷ items) = ⊥
 
 told-append : (S : Facts) (xs ys : List Item) → AllTold S xs → AllTold S ys → AllTold S (xs ++ ys)

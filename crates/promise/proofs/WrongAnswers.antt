@@ -118,9 +118,9 @@ tellContract kind =
     }
 
 -- at P4 and P5
-pub tell-rejects : Rejected (tellContract Kind.tell) (λ o. o .0 .number) (λ o. o .0) (λ i o. o .1 ≡ i .1)
+pub tell-rejects : Rejected (tellContract Kind.told) (λ o. o .0 .number) (λ o. o .0) (λ i o. o .1 ≡ i .1)
 tell-rejects =
-    rejected (tellContract Kind.tell) (λ o. o .0 .number) (λ o. o .0) (λ i o. o .1 ≡ i .1) (three 0, p3, under 0 1)
+    rejected (tellContract Kind.told) (λ o. o .0 .number) (λ o. o .0) (λ i o. o .1 ≡ i .1) (three 0, p3, under 0 1)
     (three 0, p4, under 1 2) (accepted (three 0), p4) (refused 6 0 (three 0), p4) (met-at 7) refl
     (λ e. omega (arith, ap (λ (l : List ℕ). getD l 1 0) e)) (met-at 9)
     (λ e. omega (arith, ap (λ (r : Reply). r .number) e))
@@ -140,45 +140,45 @@ not-stored : (r : Reply) → r .number ≡ 0 → ¬ MerelyStores (three 0, p3, u
 not-stored r e stores = omega (arith, ap (λ (l : List ℕ). getD l 5 0) (stores not-fresh e))
 
 pub tell-not-stores :
-    (p : Program (tellContract Kind.tell)) → ¬ ((i : Session × List ℕ × Fact) → MerelyStores i (p .run i))
+    (p : Program (tellContract Kind.told)) → ¬ ((i : Session × List ℕ × Fact) → MerelyStores i (p .run i))
 tell-not-stores =
-    never (tellContract Kind.tell) MerelyStores (three 0, p3, under 0 1) (accepted (three 0), p4) (met-at 7)
+    never (tellContract Kind.told) MerelyStores (three 0, p3, under 0 1) (accepted (three 0), p4) (met-at 7)
     (not-stored (accepted (three 0)) refl)
 
 pub answer-not-stores :
-    (p : Program (tellContract Kind.answer)) → ¬ ((i : Session × List ℕ × Fact) → MerelyStores i (p .run i))
+    (p : Program (tellContract Kind.answered)) → ¬ ((i : Session × List ℕ × Fact) → MerelyStores i (p .run i))
 answer-not-stores =
-    never (tellContract Kind.answer) MerelyStores (three 0, p3, under 0 1) (accepted (three 1), p4) (met-at 90)
+    never (tellContract Kind.answered) MerelyStores (three 0, p3, under 0 1) (accepted (three 1), p4) (met-at 90)
     (not-stored (accepted (three 1)) refl)
 
 -- an answer on an open pair, and one on a settled pair: the tally is no constant, 0 or any other
 pub answer-rejects :
-    Rejected (tellContract Kind.answer) (λ o. o .0 .number) (λ o. o .0 .session .tests) (λ i o. o .1 ≡ i .1)
+    Rejected (tellContract Kind.answered) (λ o. o .0 .number) (λ o. o .0 .session .tests) (λ i o. o .1 ≡ i .1)
 answer-rejects =
-    rejected (tellContract Kind.answer) (λ o. o .0 .number) (λ o. o .0 .session .tests) (λ i o. o .1 ≡ i .1)
+    rejected (tellContract Kind.answered) (λ o. o .0 .number) (λ o. o .0 .session .tests) (λ i o. o .1 ≡ i .1)
     (three 0, p7, under 2 1) (three 0, p2, under 1 1) (accepted (three 1), p8) (accepted (three 0), p2) (met-at 27) refl
     (λ e. omega (arith, ap (λ (l : List ℕ). getD l 3 0) e)) (met-at 20) (λ e. omega arith)
 
 -- an answer that never counts, one that counts every accepted fact, one that counts refused ones
 pub answer-counts :
-    (p : Program (tellContract Kind.answer))
+    (p : Program (tellContract Kind.answered))
     → ¬ ((i : Session × List ℕ × Fact) → p .run i .0 .session .tests ≡ i .0 .tests)
 answer-counts =
-    never (tellContract Kind.answer) (λ i o. o .0 .session .tests ≡ i .0 .tests) (three 0, p7, under 2 1)
+    never (tellContract Kind.answered) (λ i o. o .0 .session .tests ≡ i .0 .tests) (three 0, p7, under 2 1)
     (accepted (three 1), p8) (met-at 27) (λ e. omega arith)
 
 pub answer-counts-open :
-    (p : Program (tellContract Kind.answer))
+    (p : Program (tellContract Kind.answered))
     → ¬ ((i : Session × List ℕ × Fact) → p .run i .0 .number ≡ 0 → p .run i .0 .session .tests ≡ i .0 .tests + 1)
 answer-counts-open =
-    never (tellContract Kind.answer) (λ i o. o .0 .number ≡ 0 → o .0 .session .tests ≡ i .0 .tests + 1)
+    never (tellContract Kind.answered) (λ i o. o .0 .number ≡ 0 → o .0 .session .tests ≡ i .0 .tests + 1)
     (three 0, p2, under 1 1) (accepted (three 0), p2) (met-at 20) (λ e. omega (arith, e refl))
 
 pub answer-counts-accepted :
-    (p : Program (tellContract Kind.answer))
+    (p : Program (tellContract Kind.answered))
     → ¬ ((i : Session × List ℕ × Fact) → p .run i .0 .number ≡ 6 → p .run i .0 .session .tests ≡ i .0 .tests + 1)
 answer-counts-accepted =
-    never (tellContract Kind.answer) (λ i o. o .0 .number ≡ 6 → o .0 .session .tests ≡ i .0 .tests + 1)
+    never (tellContract Kind.answered) (λ i o. o .0 .number ≡ 6 → o .0 .session .tests ≡ i .0 .tests + 1)
     (three 0, p4, under 1 2) (refused 6 0 (three 0), p4) (met-at 89) (λ e. omega (arith, e refl))
 
 -- clip

@@ -1,135 +1,170 @@
--- Fact books, and what the bytes of one say: document 01, "The fact book".
+-- Fact books, what the bytes of one say, and reading: document 01, "The fact book".
 -- Assumes nothing.
-use mathlib.Core.Bool.{Bool, true, false, not}
+use mathlib.Core.Path.{_≡_}
+use mathlib.Core.Logic.{_≢_, _⊎_}
+use mathlib.Core.Bool.{Bool, true, false}
 use mathlib.Core.List.{List, [], _∷_, _++_}
-use Prim.Native.Nat.{ℕ, zero, suc, _+_, _*_, _%_}
-use lib.Dec.{eqb, ltb}
+use Prim.Native.Nat.{ℕ, zero, suc, _+_, _*_, _-_, _/_, _%_, _<_}
+use lib.Dec.{eqb}
 use lib.ListN.{length, getD, take, drop}
-use Rattle.promise.specs.Tell.{Kind}
+use Rattle.order.specs.Refusals.{Condition, First}
+use Rattle.order.specs.Facts.{Fact, factOn}
+use Rattle.promise.specs.declared.Stage.{Stage}
+use Rattle.promise.specs.declared.Stage.the-variants.{Start, Begun}
+use Rattle.promise.specs.declared.Session.{Session}
+use Rattle.promise.specs.declared.Reply.{Reply}
+use Rattle.promise.specs.Refusals.{cutShort, unknownTag, misplacedTag, badLength, badVerdict}
+use Rattle.promise.specs.Tell.{Kind, fresh, tell}
+use Rattle.promise.specs.Sessions.{noSession, reply}
+use Rattle.promise.specs.Clips.{truthOf}
+use Rattle.promise.specs.Calls.{Owed}
 
--- the four tags, and any other
-pub data Tag : Type 0 where
-  class-count : Tag
-  yes-facts : Tag
-  no-facts : Tag
-  answers : Tag
-  unknown : Tag
+-- what the contents of a field are: a class count, or facts of so many bytes each, all of one kind, with the verdict that a fact's bytes
+-- give
+pub data Contents : Type 0 where
+  class-count : Contents
+  facts : (width : ℕ) (kind : Kind) (verdict : List ℕ → ℕ) → Contents
 
-abbrev pub tagOf : ℕ → Tag
-tagOf zero = Tag.unknown
-tagOf (suc zero) = Tag.class-count
-tagOf (suc (suc zero)) = Tag.yes-facts
-tagOf (suc (suc (suc zero))) = Tag.no-facts
-tagOf (suc (suc (suc (suc zero)))) = Tag.answers
-tagOf (suc (suc (suc (suc (suc k))))) = Tag.unknown
+-- a tag: at which stages of reading it may stand, which lengths it allows, what its contents are, and the stage behind it
+pub record TagRow : Type 0 where
+  pub tag : ℕ
+  pub stands : Stage → Bool
+  pub allows : ℕ → Bool
+  pub contents : Contents
+  pub behind : Stage
 
--- "tag not 1 to 4"
-abbrev pub isUnknown : Tag → Bool
-isUnknown Tag.class-count = false
-isUnknown Tag.yes-facts = false
-isUnknown Tag.no-facts = false
-isUnknown Tag.answers = false
-isUnknown Tag.unknown = true
+abbrev pub atStart : Stage → Bool
+atStart Start = true
+atStart Begun = false
 
--- "first field not tag 1, or tag 1 again": whether the field is the first, and whether its tag is 1
-abbrev pub isMisplaced : Bool → Tag → Bool
-isMisplaced first Tag.class-count = not first
-isMisplaced first Tag.yes-facts = first
-isMisplaced first Tag.no-facts = first
-isMisplaced first Tag.answers = first
-isMisplaced first Tag.unknown = first
+abbrev pub onceBegun : Stage → Bool
+onceBegun Start = false
+onceBegun Begun = true
 
--- the lengths that a tag allows: 1, even, even, a multiple of 3; an unknown tag is a fault before its length is
-abbrev pub allows : Tag → ℕ → Bool
-allows Tag.class-count len = eqb len 1
-allows Tag.yes-facts len = eqb (len % 2) 0
-allows Tag.no-facts len = eqb (len % 2) 0
-allows Tag.answers len = eqb (len % 3) 0
-allows Tag.unknown len = true
+-- a tag whose contents are facts: any number of whole ones, once a class count is accepted
+abbrev pub factsRow : ℕ → ℕ → Kind → (List ℕ → ℕ) → TagRow
+factsRow tag width kind verdict =
+    record {
+      tag = tag;
+      stands = onceBegun;
+      allows = λ len. eqb (len % width) 0;
+      contents = Contents.facts width kind verdict;
+      behind = Begun;
+    }
 
--- a fault: its refusal number, and whether it is there
-pub record Fault : Type 0 where
-  pub number : ℕ
-  pub there : Bool
+-- "n; first field, once only", "yes facts, told: a, b", "no facts, told: a, b", "answers: a, b, verdict 1 yes or 0 no"
+abbrev pub tags : List TagRow
+tags =
+    record { tag = 1; stands = atStart; allows = λ len. eqb len 1; contents = Contents.class-count; behind = Begun }
+    ∷ factsRow 2 2 Kind.told (λ bytes. 1)
+    ∷ factsRow 3 2 Kind.told (λ bytes. 0)
+    ∷ factsRow 4 3 Kind.answered (λ bytes. getD bytes 2 0)
+    ∷ []
 
-abbrev pub chosen : Bool → ℕ → ℕ → ℕ
-chosen true number later = number
-chosen false number later = later
+-- the row of a tag, or that it has none
+pub data Lookup : Type 0 where
+  row : TagRow → Lookup
+  none : Lookup
 
--- the number of the first fault that is there, 0 where none is
-abbrev pub firstOf : List Fault → ℕ
-firstOf [] = 0
-firstOf (f ∷ fs) = chosen (f .there) (f .number) (firstOf fs)
+abbrev pub first-match : Bool → TagRow → Lookup → Lookup
+first-match true here later = Lookup.row here
+first-match false here later = later
 
--- "a field gives 10 (head bytes), 11, 12, 13, 10 (contents)": the fault of a field that has its head bytes, 0 for none; room bytes
--- come after its head
-unfoldable pub fieldFault : Bool → Tag → ℕ → ℕ → ℕ
-fieldFault first tag len room =
-    firstOf
-    (record { number = 11; there = isUnknown tag }
-    ∷ record { number = 12; there = isMisplaced first tag }
-    ∷ record { number = 13; there = not (allows tag len) }
-    ∷ record { number = 10; there = ltb room len }
-    ∷ [])
+abbrev pub lookup : ℕ → List TagRow → Lookup
+lookup tag [] = Lookup.none
+lookup tag (here ∷ later) = first-match (eqb tag (here .tag)) here (lookup tag later)
 
--- the length that the field at an index gives, "high byte first"
-abbrev pub lengthAt : List ℕ → ℕ → ℕ
-lengthAt book at = getD book (at + 1) 0 * 256 + getD book (at + 2) 0
+unfoldable pub rowOf : ℕ → Lookup
+rowOf tag = lookup tag tags
 
--- What a book says, each thing with its place: a class count, at its tag byte; a fact, at its first byte; or a fault, at the tag byte
--- of its field, where the book is given up.
+-- the length that a field gives, "high byte first"
+abbrev pub lengthOf : List ℕ → ℕ
+lengthOf bytes = getD bytes 1 0 * 256 + getD bytes 2 0
+
+-- "11, 12, 13, 10 (contents)", by the row of the tag; room bytes come after the head
+abbrev pub rowRefusals : Lookup → Stage → ℕ → ℕ → List Condition
+rowRefusals Lookup.none stage len room = unknownTag (Unit {0}) ∷ []
+rowRefusals (Lookup.row tag) stage len room =
+    misplacedTag (tag .stands stage ≡ false) ∷ badLength (tag .allows len ≡ false) ∷ cutShort (room < len) ∷ []
+
+-- "In a book an empty one gives 12; a field gives 10 (head bytes), 11, 12, 13, 10 (contents)": the field with which these bytes begin
+abbrev pub fieldRefusals : Stage → List ℕ → List Condition
+fieldRefusals stage bytes =
+    misplacedTag (length bytes ≡ 0)
+    ∷ cutShort (length bytes < 3)
+    ∷ rowRefusals (rowOf (getD bytes 0 0)) stage (lengthOf bytes) (length bytes - 3)
+
+-- What reading comes to, one after the other, each with its place: a field, at its tag byte, with the stage of reading and all bytes from
+-- there on; a class count, at the tag byte; a fact, at its first byte.
 pub data Item : Type 0 where
+  field : (place : ℕ) (stage : Stage) (bytes : List ℕ) → Item
   begin : (place classes : ℕ) → Item
   said : (place : ℕ) (kind : Kind) (lower upper verdict : ℕ) → Item
-  fault : (place number : ℕ) → Item
 
--- "facts, told: a, b", all of one verdict
-unfoldable pub tellsFrom : ℕ → ℕ → List ℕ → List Item
-tellsFrom verdict at [] = []
-tellsFrom verdict at (a ∷ []) = []
-tellsFrom verdict at (a ∷ b ∷ rest) = Item.said at Kind.tell a b verdict ∷ tellsFrom verdict (at + 2) rest
+-- so many facts of a field, the first of them at a place
+unfoldable pub factsFrom : ℕ → ℕ → Kind → (List ℕ → ℕ) → ℕ → List ℕ → List Item
+factsFrom zero width kind verdict at bytes = []
+factsFrom (suc count) width kind verdict at bytes =
+    Item.said at kind (getD bytes 0 0) (getD bytes 1 0) (verdict bytes)
+    ∷ factsFrom count width kind verdict (at + width) (drop width bytes)
 
--- "answers: a, b, verdict 1 yes or 0 no"
-unfoldable pub answersFrom : ℕ → List ℕ → List Item
-answersFrom at [] = []
-answersFrom at (a ∷ []) = []
-answersFrom at (a ∷ b ∷ []) = []
-answersFrom at (a ∷ b ∷ v ∷ rest) = Item.said at Kind.answer a b v ∷ answersFrom (at + 3) rest
+-- what the contents of a field say whose tag byte stands at place at
+abbrev pub saidIn : Contents → ℕ → List ℕ → List Item
+saidIn Contents.class-count at bytes = Item.begin at (getD bytes 0 0) ∷ []
+saidIn (Contents.facts width kind verdict) at bytes = factsFrom (length bytes / width) width kind verdict (at + 3) bytes
 
-abbrev pub countFrom : ℕ → List ℕ → List Item
-countFrom at [] = []
-countFrom at (n ∷ rest) = Item.begin at n ∷ []
+abbrev pub contentsOf : Lookup → ℕ → List ℕ → List Item
+contentsOf Lookup.none at bytes = []
+contentsOf (Lookup.row tag) at bytes = saidIn (tag .contents) at bytes
 
--- what a field says, whose tag byte stands at place at, by its contents
-abbrev pub contents : Tag → ℕ → List ℕ → List Item
-contents Tag.class-count at bytes = countFrom at bytes
-contents Tag.yes-facts at bytes = tellsFrom 1 (at + 3) bytes
-contents Tag.no-facts at bytes = tellsFrom 0 (at + 3) bytes
-contents Tag.answers at bytes = answersFrom (at + 3) bytes
-contents Tag.unknown at bytes = []
+-- the stage behind a field
+abbrev pub stageBehind : Lookup → Stage → Stage
+stageBehind Lookup.none stage = stage
+stageBehind (Lookup.row tag) stage = tag .behind
 
--- the fault of a field, if it has one, in place of what is said from there on
-abbrev pub unlessFault : ℕ → ℕ → List Item → List Item
-unlessFault zero at items = items
-unlessFault (suc k) at items = Item.fault at (suc k) ∷ []
+-- "A run of fields: one-byte tag, two-byte length (high byte first), that many bytes": what the bytes from place at on come to, in at
+-- most fuel fields. What stands behind a field that is refused is never come to.
+unfoldable pub itemsFrom : ℕ → Stage → ℕ → List ℕ → List Item
+itemsFrom zero stage at bytes = []
+itemsFrom (suc fuel) stage at [] = []
+itemsFrom (suc fuel) stage at (tag ∷ bytes) =
+    let len = lengthOf (tag ∷ bytes) in
+    Item.field at stage (tag ∷ bytes)
+    ∷ contentsOf (rowOf tag) at (take len (drop 2 bytes))
+    ++ itemsFrom fuel (stageBehind (rowOf tag) stage) (at + 3 + len) (drop len (drop 2 bytes))
 
--- where no byte is left: "book empty" if there was no field
-abbrev pub ending : Bool → List Item
-ending true = Item.fault 0 12 ∷ []
-ending false = []
-
--- "A run of fields: one-byte tag, two-byte length (high byte first), that many bytes": what the bytes from place at on say, the
--- first field or a later one, in at most fuel fields
-unfoldable pub itemsFrom : ℕ → Bool → ℕ → List ℕ → List Item
-itemsFrom zero first at bytes = ending first
-itemsFrom (suc fuel) first at [] = ending first
-itemsFrom (suc fuel) first at (tag ∷ []) = Item.fault at 10 ∷ []
-itemsFrom (suc fuel) first at (tag ∷ hi ∷ []) = Item.fault at 10 ∷ []
-itemsFrom (suc fuel) first at (tag ∷ hi ∷ lo ∷ rest) =
-    unlessFault (fieldFault first (tagOf tag) (hi * 256 + lo) (length rest)) at
-    (contents (tagOf tag) at (take (hi * 256 + lo) rest)
-    ++ itemsFrom fuel false (at + 3 + (hi * 256 + lo)) (drop (hi * 256 + lo) rest))
-
--- what a book says; it has no more fields than bytes
+-- what a book comes to, an empty one to its missing first field; it has no more fields than bytes
 abbrev pub itemsOf : List ℕ → List Item
-itemsOf book = itemsFrom (length book) true 0 book
+itemsOf [] = Item.field 0 Start [] ∷ []
+itemsOf (tag ∷ bytes) = itemsFrom (suc (length bytes)) Start 0 (tag ∷ bytes)
+
+-- the fact that three bytes make, "verdict 1 yes or 0 no"
+abbrev pub factOf : ℕ → ℕ → ℕ → Fact
+factOf a b v = factOn a b (truthOf v)
+
+-- the reading ends here with a number and a place; session and table are as they stand
+abbrev pub Ends : ℕ → ℕ → Session → List ℕ → Reply → List ℕ → Type 0
+Ends number place s t r t′ = (r ≡ reply number place s) × (t′ ≡ t)
+
+-- what stands at a place was judged with a number: the reading ends there if it is refused, and goes on if not
+abbrev pub GoesOn : ℕ → ℕ → Session → List ℕ → Reply → List ℕ → Type 0 → Type 0
+GoesOn number place s t r t′ later = ((number ≢ 0) × Ends number place s t r t′) ⊎ ((number ≡ 0) × later)
+
+-- From session s and table t the items are followed from the left, a class count by fresh and a fact by tell or answer: "then tag 1
+-- gives 1, 2, and each fact 14, 5, 6". The reply is r, and the table is then t′.
+abbrev pub Follows : List Item → Session → List ℕ → Reply → List ℕ → Type 0
+Follows [] s t r t′ = Ends 0 0 s t r t′
+Follows (Item.field place stage bytes ∷ items) s t r t′ =
+    (k : ℕ) × First (fieldRefusals stage bytes) k × GoesOn k place s t r t′ (Follows items s t r t′)
+Follows (Item.begin place n ∷ items) s t r t′ =
+    (r₁ : Reply) × (t₁ : List ℕ) × Owed (fresh n t) (r₁, t₁)
+    × GoesOn (r₁ .number) place (r₁ .session) t₁ r t′ (Follows items (r₁ .session) t₁ r t′)
+Follows (Item.said place kind a b v ∷ items) s t r t′ =
+    (k : ℕ) × First (badVerdict v ∷ []) k
+    × GoesOn k place s t r t′
+    ((r₁ : Reply) × (t₁ : List ℕ) × Owed (tell kind s t (factOf a b v)) (r₁, t₁)
+    × GoesOn (r₁ .number) place (r₁ .session) t₁ r t′ (Follows items (r₁ .session) t₁ r t′))
+
+-- read, given a book and the table t, replies r, and the table is then t′
+pub record BookRead (book t : List ℕ) (r : Reply) (t′ : List ℕ) : Type 0 where
+  pub followed : Follows (itemsOf book) noSession t r t′

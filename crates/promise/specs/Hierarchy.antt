@@ -1,18 +1,19 @@
--- Groups and direct steps: document 01, "Groups, direct steps, ladders".
+-- Groups, direct steps and ladders: document 01, "Groups, direct steps, ladders".
 -- Assumes nothing.
 use mathlib.Core.Path.{_≡_}
 use mathlib.Core.Logic.{_≢_, _⊎_}
 use mathlib.Core.List.{List, [], _∷_}
-use Prim.Native.Nat.{ℕ, _≤_, _<_}
+use Prim.Native.Nat.{ℕ, _≤_, _<_, suc}
 use lib.ListN.{length, getD}
 use Rattle.order.specs.Tables.{mark}
 use Rattle.order.specs.Pairs.{Pair, Lists, bytesOf}
-use Rattle.order.specs.Refusals.{Condition, First}
+use Rattle.order.specs.Refusals.{Condition}
 use Rattle.promise.specs.declared.Session.{Session}
-use Rattle.promise.specs.declared.Wrote.{Wrote}
-use Rattle.promise.specs.declared.Wrote.the-variants.{Count, Refused}
-use Rattle.promise.specs.Refusals.{standing, stillOpen, noRoom}
-use Rattle.promise.specs.Buffers.{numberOf, placeOf, over, TooShort}
+use Rattle.promise.specs.declared.Counted.{Counted}
+use Rattle.promise.specs.declared.Counted.the-variants.{Count, Refused}
+use Rattle.promise.specs.Refusals.{standing, stillOpen, noRoom, noSuchClass, noLadder}
+use Rattle.promise.specs.Calls.{Call}
+use Rattle.promise.specs.Counts.{countNumber, over, TooShort, writes}
 
 -- a is under b
 abbrev pub Under : ℕ → List ℕ → ℕ → ℕ → Type 0
@@ -68,16 +69,58 @@ hierarchyRefusals s t heads steps =
     ∷ noRoom (TooShort (HeadsOf (s .classes) t) heads ⊎ TooShort (StepBytes (s .classes) t) steps)
     ∷ []
 
--- what each answer says of the two buffers
-abbrev pub HierarchyIn : ℕ → List ℕ → List ℕ → List ℕ → List ℕ → List ℕ → Wrote → Type 0
-HierarchyIn n t heads steps heads′ steps′ (Count c) =
-    ((hs : List ℕ) × HeadsOf n t hs × (heads′ ≡ over hs heads))
-    × ((l : List Pair) × StepsOf n t l × (c ≡ length l) × (steps′ ≡ over (bytesOf l) steps))
-HierarchyIn n t heads steps heads′ steps′ (Refused number place) =
-    (number ≢ 0) × (heads′ ≡ heads) × (steps′ ≡ steps)
+-- hierarchy, with session s, table t and two buffers; it counts the steps
+abbrev pub hierarchy : Session → List ℕ → List ℕ → List ℕ → Call (Counted × (List ℕ × List ℕ))
+hierarchy s t heads steps =
+    record {
+      refusals = standing s t (hierarchyRefusals s t heads steps);
+      number = λ o. countNumber (o .0);
+      refused = λ k. (Refused k 0, (heads, steps));
+      Done = λ o.
+          (hs : List ℕ) × (l : List Pair) × HeadsOf (s .classes) t hs × StepsOf (s .classes) t l
+          × (o ≡ (Count (length l), (over hs heads, over (bytesOf l) steps)));
+    }
 
--- hierarchy, with session s, table t and two buffers, answers r, and the buffers are then heads′ and steps′
-pub record HierarchyWritten (s : Session) (t heads steps : List ℕ) (r : Wrote) (heads′ steps′ : List ℕ) : Type 0 where
-  pub number : First (standing s t (hierarchyRefusals s t heads steps)) (numberOf r)
-  pub place : placeOf r ≡ 0
-  pub buffers : HierarchyIn (s .classes) t heads steps heads′ steps′ r
+-- "Each next rung is the lowest-numbered head directly above the last rung and under b"
+pub record NextRung (n : ℕ) (t : List ℕ) (b rung next : ℕ) : Type 0 where
+  pub direct : Direct n t rung next
+  pub under : Under n t next b
+  pub lowest : (c : ℕ) → Direct n t rung c → Under n t c b → next ≤ c
+
+-- the ladder to b from a rung on: "what remains is the ladder from that rung on. It ends at the head of b. One byte a rung"
+pub data Ladder (n : ℕ) (t : List ℕ) (b : ℕ) : ℕ → List ℕ → Type 0 where
+  end : {rung : ℕ} → HeadOf n t b rung → Ladder n t b rung (rung ∷ [])
+  rung :
+      {rung next : ℕ} {l : List ℕ} → NextRung n t b rung next → Ladder n t b next l → Ladder n t b rung (rung ∷ l)
+
+-- "The ladder from a to b starts at the head of a."
+pub record LadderOf (n : ℕ) (t : List ℕ) (a b : ℕ) (l : List ℕ) : Type 0 where
+  pub start : ℕ
+  pub head : HeadOf n t a start
+  pub rungs : Ladder n t b start l
+
+-- "heads strictly above the rung and under the goal", the goal being b
+pub record Above (n : ℕ) (t : List ℕ) (b rung c : ℕ) : Type 0 where
+  pub head : Head n t c
+  pub differ : c ≢ rung
+  pub above : Under n t rung c
+  pub under : Under n t c b
+
+-- m of the numbers below k have P
+pub data Number (P : ℕ → Type 0) : ℕ → ℕ → Type 0 where
+  none : Number P 0 0
+  counted : {k m : ℕ} → P k → Number P k m → Number P (suc k) (suc m)
+  passed : {k m : ℕ} → ¬ P k → Number P k m → Number P (suc k) m
+
+-- "ladder 5, 7, 9, 8"
+abbrev pub ladderRefusals : Session → List ℕ → ℕ → ℕ → List ℕ → List Condition
+ladderRefusals s t a b out =
+    noSuchClass ((s .classes ≤ a) ⊎ (s .classes ≤ b))
+    ∷ stillOpen (s .classes) t
+    ∷ noLadder (s .classes) t a b
+    ∷ noRoom (TooShort (LadderOf (s .classes) t a b) out)
+    ∷ []
+
+-- ladder, from a to b with session s, table t and a buffer; it counts the rungs
+abbrev pub ladder : Session → List ℕ → ℕ → ℕ → List ℕ → Call (Counted × List ℕ)
+ladder s t a b out = writes (standing s t (ladderRefusals s t a b out)) (LadderOf (s .classes) t a b) out

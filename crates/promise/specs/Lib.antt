@@ -1,15 +1,11 @@
 pub mod Sessions
 pub mod Refusals
-pub mod Replies
-pub mod Fresh
-pub mod Flags
+pub mod Calls
 pub mod Tell
 pub mod Clips
 pub mod Runs
 pub mod Next
-pub mod Buffers
+pub mod Counts
 pub mod Hierarchy
-pub mod Ladder
 pub mod Book
-pub mod Read
 pub mod Write

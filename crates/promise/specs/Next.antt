@@ -2,29 +2,26 @@
 -- Assumes nothing.
 use mathlib.Core.Path.{_≡_}
 use mathlib.Core.Logic.{_≢_}
-use mathlib.Core.Bool.{Bool}
+use mathlib.Core.Bool.{Bool, true, false}
 use mathlib.Core.List.{List, []}
 use Prim.Native.Nat.{ℕ, suc, _<_}
+use Rattle.order.specs.Facts.{factOn}
 use Rattle.order.specs.Tables.{mark}
 use Rattle.order.specs.Pairs.{Before}
-use Rattle.order.specs.Refusals.{First}
 use Rattle.promise.specs.declared.Session.{Session}
 use Rattle.promise.specs.declared.Reply.{Reply}
 use Rattle.promise.specs.declared.Question.{Question}
 use Rattle.promise.specs.declared.Question.the-variants.{Ask, Done, Refused}
+use Rattle.promise.specs.declared.CrossedQuestion.{CrossedQuestion}
 use Rattle.promise.specs.Refusals.{standing}
-use Rattle.promise.specs.Tell.{Answered}
+use Rattle.promise.specs.Calls.{Call, Owed, crossing}
+use Rattle.promise.specs.Tell.{Kind, tell}
 
--- the refusal number and the place of each answer
-abbrev pub numberOf : Question → ℕ
-numberOf (Ask a b) = 0
-numberOf Done = 0
-numberOf (Refused number place) = number
-
-abbrev pub placeOf : Question → ℕ
-placeOf (Ask a b) = 0
-placeOf Done = 0
-placeOf (Refused number place) = place
+-- the refusal number of each answer
+abbrev pub questionNumber : Question → ℕ
+questionNumber (Ask a b) = 0
+questionNumber Done = 0
+questionNumber (Refused number place) = number
 
 -- "names the first open pair, rows in rising order and then columns"
 pub record FirstOpen (n : ℕ) (t : List ℕ) (a b : ℕ) : Type 0 where
@@ -37,22 +34,34 @@ pub record FirstOpen (n : ℕ) (t : List ℕ) (a b : ℕ) : Type 0 where
 pub record NoneOpen (n : ℕ) (t : List ℕ) : Type 0 where
   pub at : (a b : ℕ) → a < n → b < n → mark n t a b ≢ 0
 
--- what each answer says of the table
-abbrev pub Says : ℕ → List ℕ → Question → Type 0
-Says n t (Ask a b) = FirstOpen n t a b
-Says n t Done = NoneOpen n t
-Says n t (Refused number place) = number ≢ 0
+-- what an accepted question says of the table
+abbrev pub Names : ℕ → List ℕ → Question → Type 0
+Names n t (Ask a b) = FirstOpen n t a b
+Names n t Done = NoneOpen n t
+Names n t (Refused number place) = ⊥
 
--- the next question of session s and table t is q
-pub record Asked (s : Session) (t : List ℕ) (q : Question) : Type 0 where
-  pub number : First (standing s t []) (numberOf q)
-  pub place : placeOf q ≡ 0
-  pub says : Says (s .classes) t q
+-- the next question of session s and table t
+abbrev pub next : Session → List ℕ → Call Question
+next s t =
+    record {
+      refusals = standing s t [];
+      number = questionNumber;
+      refused = λ k. Refused k 0;
+      Done = λ q. Names (s .classes) t q;
+    }
+
+-- the question that C gets: 01's number and place, and the values of each case, 0 where it has none
+abbrev pub questionFor : Question → CrossedQuestion
+questionFor (Ask a b) = record { number = 0; place = 0; asks = true; lower = a; upper = b }
+questionFor Done = record { number = 0; place = 0; asks = false; lower = 0; upper = 0 }
+questionFor (Refused number place) = record { number = number; place = place; asks = false; lower = 0; upper = 0 }
+
+abbrev pub nextForC : Session → List ℕ → Call CrossedQuestion
+nextForC s t = crossing questionFor (λ q. q .number) (next s t)
 
 -- k rounds of "asking and answering the pair asked" lead from session s and table t to s′ and t′
 pub data Rounds : ℕ → Session → List ℕ → Session → List ℕ → Type 0 where
   none : {s : Session} {t : List ℕ} → Rounds 0 s t s t
   round :
-      {k a b : ℕ} {v : Bool} {s s′ : Session} {t t₁ t′ : List ℕ} {r : Reply} → Asked s t (Ask a b)
-      → Answered s t (record { lower = a; upper = b; holds = v }) r t₁ → Rounds k (r .session) t₁ s′ t′
-      → Rounds (suc k) s t s′ t′
+      {k a b : ℕ} {v : Bool} {s s′ : Session} {t t₁ t′ : List ℕ} {r : Reply} → Owed (next s t) (Ask a b)
+      → Owed (tell Kind.answered s t (factOn a b v)) (r, t₁) → Rounds k (r .session) t₁ s′ t′ → Rounds (suc k) s t s′ t′

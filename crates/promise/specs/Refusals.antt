@@ -1,4 +1,5 @@
--- Document 01's refusal numbers outside books, each with its "When, exactly"; and what every call but fresh and reading starts with.
+-- Document 01's refusal numbers, each with its "When, exactly": no other definition has one. And what every call but fresh and reading
+-- starts with.
 -- Assumes nothing.
 use mathlib.Core.Path.{_≡_}
 use mathlib.Core.Logic.{_≢_, _⊎_}
@@ -45,6 +46,30 @@ noRoom shorter = record { number = 8; when = shorter }
 -- "ladder: a isn't under b"
 abbrev pub noLadder : ℕ → List ℕ → ℕ → ℕ → Condition
 noLadder n t a b = record { number = 9; when = mark n t a b ≢ 1 }
+
+-- "field's three head bytes or its contents run past the end"
+abbrev pub cutShort : Type 0 → Condition
+cutShort past = record { number = 10; when = past }
+
+-- "tag not 1 to 4"
+abbrev pub unknownTag : Type 0 → Condition
+unknownTag unknown = record { number = 11; when = unknown }
+
+-- "book empty, first field not tag 1, or tag 1 again"
+abbrev pub misplacedTag : Type 0 → Condition
+misplacedTag misplaced = record { number = 12; when = misplaced }
+
+-- "length not allowed for the tag"
+abbrev pub badLength : Type 0 → Condition
+badLength forbidden = record { number = 13; when = forbidden }
+
+-- "verdict neither 0 nor 1"
+abbrev pub badVerdict : ℕ → Condition
+badVerdict verdict = record { number = 14; when = 1 < verdict }
+
+-- "program only, before all others: input above 32,768 bytes"
+abbrev pub tooLong : ℕ → Condition
+tooLong size = record { number = 15; when = 32768 < size }
 
 -- "every other call except reading starts 1, 2, 3, 4", and goes on with refusals of its own
 abbrev pub standing : Session → List ℕ → List Condition → List Condition

@@ -12,9 +12,9 @@ use Rattle.order.specs.Refusals.{First}
 use Rattle.promise.specs.declared.Session.{Session}
 use Rattle.promise.specs.declared.Reply.{Reply}
 use Rattle.promise.specs.Refusals.{standing}
-use Rattle.promise.specs.Fresh.{Freshened}
-use Rattle.promise.specs.Tell.{Kind, adds, Took}
-use Rattle.promise.specs.Clips.{ClipNo, MemberBeyond, Clipped}
+use Rattle.promise.specs.Calls.{Call, Owed}
+use Rattle.promise.specs.Tell.{Kind, adds, fresh, tell}
+use Rattle.promise.specs.Clips.{ClipNo, MemberBeyond, clip}
 
 -- The table t is that of the facts of S, with a session that it can be used with: refusals 1 to 4 are not due.
 pub record StandsFor (S : Facts) (s : Session) (t : List ℕ) : Type 0 where
@@ -22,66 +22,62 @@ pub record StandsFor (S : Facts) (s : Session) (t : List ℕ) : Type 0 where
   pub table : TableOf (s .classes) S t
   pub stands : First (standing s t []) 0
 
--- a call that takes facts in: a fact told or given as an answer, or a clip
-pub data Call : Type 0 where
-  take : Kind → Fact → Call
-  clip : List Bool → Call
+-- what a call takes in: a fact told or given as an answer, or a clip
+pub data Intake : Type 0 where
+  fact : Kind → Fact → Intake
+  clipped : List Bool → Intake
 
--- with session s and table t the call is made: the reply is r, and the table is then t′
-pub data Makes : Call → Session → List ℕ → Reply → List ℕ → Type 0 where
-  took :
-      {kind : Kind} {f : Fact} {s : Session} {t t′ : List ℕ} {r : Reply} → Took kind s t f r t′
-      → Makes (Call.take kind f) s t r t′
-  clipped :
-      {played : List Bool} {s : Session} {t t′ : List ℕ} {r : Reply} → Clipped s t played r t′
-      → Makes (Call.clip played) s t r t′
+-- the call that takes it in, with session s and table t
+abbrev pub taking : Intake → Session → List ℕ → Call (Reply × List ℕ)
+taking (Intake.fact kind f) s t = tell kind s t f
+taking (Intake.clipped played) s t = clip s t played
 
 -- the facts that a call says, for n classes
-abbrev pub SaidBy : ℕ → Call → Facts
-SaidBy n (Call.take kind f) = Only f
-SaidBy n (Call.clip played) = ClipNo n played
+abbrev pub SaidBy : ℕ → Intake → Facts
+SaidBy n (Intake.fact kind f) = Only f
+SaidBy n (Intake.clipped played) = ClipNo n played
 
 -- the facts that the calls of a list say
-abbrev pub Said : ℕ → List Call → Facts
+abbrev pub Said : ℕ → List Intake → Facts
 Said n [] f = ⊥
 Said n (c ∷ later) f = SaidBy n c f ⊎ Said n later f
 
 -- every class that a call names is below n; and so for the calls of a list
-abbrev pub Fits : ℕ → Call → Type 0
-Fits n (Call.take kind f) = Below n f
-Fits n (Call.clip played) = ¬ MemberBeyond n played
+abbrev pub Fits : ℕ → Intake → Type 0
+Fits n (Intake.fact kind f) = Below n f
+Fits n (Intake.clipped played) = ¬ MemberBeyond n played
 
-abbrev pub AllFit : ℕ → List Call → Type 0
+abbrev pub AllFit : ℕ → List Intake → Type 0
 AllFit n [] = Unit {0}
 AllFit n (c ∷ later) = Fits n c × AllFit n later
 
 -- what a call adds to the tally, by its refusal number and the session and the table before it
-abbrev pub addedBy : Call → ℕ → Session → List ℕ → ℕ
-addedBy (Call.take kind f) number s t = adds kind number (mark (s .classes) t (f .lower) (f .upper))
-addedBy (Call.clip played) number s t = 0
+abbrev pub addedBy : Intake → ℕ → Session → List ℕ → ℕ
+addedBy (Intake.fact kind f) number s t = adds kind number (mark (s .classes) t (f .lower) (f .upper))
+addedBy (Intake.clipped played) number s t = 0
 
 -- a call that was made, and the refusal number that it got
 pub record Made : Type 0 where
-  pub call : Call
+  pub call : Intake
   pub number : ℕ
 
 -- The calls of a list, the first first, lead from session s and table t to s′ and t′.
 pub data Run : Session → List ℕ → List Made → Session → List ℕ → Type 0 where
   stop : {s : Session} {t : List ℕ} → Run s t [] s t
   call :
-      {m : Made} {later : List Made} {s s′ : Session} {t t₁ t′ : List ℕ} {r : Reply} → Makes (m .call) s t r t₁
+      {m : Made} {later : List Made} {s s′ : Session} {t t₁ t′ : List ℕ} {r : Reply} → Owed (taking (m .call) s t) (r, t₁)
       → r .number ≡ m .number → Run (r .session) t₁ later s′ t′ → Run s t (m ∷ later) s′ t′
 
 -- fresh is accepted for n classes on the table t, and the calls of a list follow
 pub record FromFresh (n : ℕ) (t : List ℕ) (made : List Made) (s′ : Session) (t′ : List ℕ) : Type 0 where
   pub reply : Reply
   pub table : List ℕ
-  pub began : Freshened n t reply table
+  pub began : Owed (fresh n t) (reply, table)
   pub accepted : reply .number ≡ 0
   pub run : Run (reply .session) table made s′ t′
 
 -- the calls, without the refusal numbers that they got
-abbrev pub callsOf : List Made → List Call
+abbrev pub callsOf : List Made → List Intake
 callsOf [] = []
 callsOf (m ∷ later) = m .call ∷ callsOf later
 

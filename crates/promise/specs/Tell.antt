@@ -1,44 +1,51 @@
--- Tell and answer: a fact is taken in.
+-- Fresh, tell and answer: a new table, and a fact taken in.
 -- Assumes nothing.
 use mathlib.Core.Logic.{_⊎_}
+use mathlib.Core.Bool.{Bool, true, false}
 use mathlib.Core.List.{List, [], _∷_}
 use Prim.Native.Nat.{ℕ, zero, suc, _≤_}
 use Rattle.order.specs.Facts.{Fact, _with_}
-use Rattle.order.specs.Tables.{mark, TableOf, Marks, Contradicts}
+use Rattle.order.specs.Tables.{mark, TableOf, Marks, Contradicts, Fresh}
 use Rattle.order.specs.Refusals.{Condition}
 use Rattle.promise.specs.declared.Session.{Session}
 use Rattle.promise.specs.declared.Reply.{Reply}
-use Rattle.promise.specs.Sessions.{tested}
-use Rattle.promise.specs.Refusals.{standing, noSuchClass, contradicted}
-use Rattle.promise.specs.Replies.{Replies}
+use Rattle.promise.specs.Sessions.{tested, noSession, started}
+use Rattle.promise.specs.Refusals.{standing, noSuchClass, contradicted, badCount, shortTable}
+use Rattle.promise.specs.Calls.{Call, changes}
+
+-- "fresh 1, 2"
+abbrev pub freshRefusals : ℕ → List ℕ → List Condition
+freshRefusals n t = badCount n ∷ shortTable n t ∷ []
+
+-- Fresh, asked for n classes on the table t: "yes on the diagonal, open elsewhere, tally 0"; refused, "n 0 and tally 0".
+abbrev pub fresh : ℕ → List ℕ → Call (Reply × List ℕ)
+fresh n t = changes (freshRefusals n t) noSession (started n) n (Fresh n) t
 
 -- the two ways to take in a fact
 pub data Kind : Type 0 where
-  tell : Kind
-  answer : Kind
+  told : Kind
+  answered : Kind
 
 -- "Tell takes a fact and never counts. Answer takes a fact and adds one to the tally exactly when that pair was open before the call
 -- and the fact is accepted": what a call adds, by its refusal number and the mark of its pair before it
 abbrev pub adds : Kind → ℕ → ℕ → ℕ
-adds Kind.tell number m = 0
-adds Kind.answer zero zero = 1
-adds Kind.answer zero (suc m) = 0
-adds Kind.answer (suc k) m = 0
+adds Kind.told number m = 0
+adds Kind.answered zero zero = 1
+adds Kind.answered zero (suc m) = 0
+adds Kind.answered (suc k) m = 0
+
+-- an answer counts, a tell does not
+abbrev pub kindOf : Bool → Kind
+kindOf true = Kind.answered
+kindOf false = Kind.told
 
 -- "tell and answer 5, 6"
 abbrev pub tellRefusals : Session → List ℕ → Fact → List Condition
 tellRefusals s t f =
     noSuchClass ((s .classes ≤ f .lower) ⊎ (s .classes ≤ f .upper)) ∷ contradicted (Contradicts (s .classes) t f) ∷ []
 
--- With session s and table t the fact f is told, or given as an answer: the reply is r, and the table is then t′, where accepted that
--- of the marks of t and of f.
-pub record Took (kind : Kind) (s : Session) (t : List ℕ) (f : Fact) (r : Reply) (t′ : List ℕ) : Type 0 where
-  pub replies :
-      Replies (standing s t (tellRefusals s t f)) s (tested (adds kind 0 (mark (s .classes) t (f .lower) (f .upper))) s)
-      (s .classes) (TableOf (s .classes) (Marks (s .classes) t with f)) t r t′
-
-abbrev pub Told : Session → List ℕ → Fact → Reply → List ℕ → Type 0
-Told = Took Kind.tell
-
-abbrev pub Answered : Session → List ℕ → Fact → Reply → List ℕ → Type 0
-Answered = Took Kind.answer
+-- With session s and table t the fact f is told, or given as an answer. Where it is accepted the marks are those of t and of f.
+abbrev pub tell : Kind → Session → List ℕ → Fact → Call (Reply × List ℕ)
+tell kind s t f =
+    changes (standing s t (tellRefusals s t f)) s (tested (adds kind 0 (mark (s .classes) t (f .lower) (f .upper))) s)
+    (s .classes) (TableOf (s .classes) (Marks (s .classes) t with f)) t

@@ -28,10 +28,35 @@ pub enum Question {
     Refused { number: u8, place: usize },
 }
 
-// What hierarchy, ladder and write give: how many steps, rungs or bytes were written, or a refusal with its number and place.
-pub enum Wrote {
+// What the calls that count give: how many pairs are open, how many steps, rungs or bytes were written, or a refusal with its number and
+// place.
+pub enum Counted {
     Count(usize),
     Refused { number: u8, place: usize },
+}
+
+// What next gives to C: the refusal number, 0 where there is none, and its place; whether a pair is asked about, and which.
+#[repr(C)]
+pub struct CrossedQuestion {
+    pub number: u8,
+    pub place: usize,
+    pub asks: bool,
+    pub lower: usize,
+    pub upper: usize,
+}
+
+// What the calls that count give to C: the refusal number, 0 where there is none, and its place; the count, 0 where it is refused.
+#[repr(C)]
+pub struct CrossedCount {
+    pub number: u8,
+    pub place: usize,
+    pub count: usize,
+}
+
+// The stages of reading a book: no field is read yet, and a class count is accepted.
+pub enum Stage {
+    Start,
+    Begun,
 }
 
 // The most classes that a table may have.

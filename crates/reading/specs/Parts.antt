@@ -18,11 +18,11 @@ use Rattle.session.specs.Facts.{stoppedAt}
 
 -- a fact in a field with this tag: how it is taken, how many bytes it has, and its verdict
 abbrev pub takenAs : Tag → Kind
-takenAs Tag.class-count = Kind.tell
-takenAs Tag.yes-facts = Kind.tell
-takenAs Tag.no-facts = Kind.tell
-takenAs Tag.answers = Kind.answer
-takenAs Tag.unknown = Kind.tell
+takenAs Tag.class-count = Kind.told
+takenAs Tag.yes-facts = Kind.told
+takenAs Tag.no-facts = Kind.told
+takenAs Tag.answers = Kind.answered
+takenAs Tag.unknown = Kind.told
 
 abbrev pub widthOf : Tag → ℕ
 widthOf Tag.class-count = 2

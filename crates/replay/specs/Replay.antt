@@ -20,8 +20,8 @@ clipFlags flags k = take 128 (drop (128 * k) flags)
 
 -- the call that four numbers make: a tell, an answer, or the clip of a number
 abbrev pub callOf : ℕ → ℕ → ℕ → Bool → List Bool → Call
-callOf zero first second holds flags = Call.take Kind.tell (factOn first second holds)
-callOf (suc zero) first second holds flags = Call.take Kind.answer (factOn first second holds)
+callOf zero first second holds flags = Call.take Kind.told (factOn first second holds)
+callOf (suc zero) first second holds flags = Call.take Kind.answered (factOn first second holds)
 callOf (suc (suc k)) first second holds flags = Call.clip (clipFlags flags first)
 
 -- call i

@@ -14,8 +14,8 @@ factOn lower upper holds = record { lower = lower; upper = upper; holds = holds 
 
 -- an answer counts, a tell does not
 abbrev pub kindOf : Bool → Kind
-kindOf true = Kind.answer
-kindOf false = Kind.tell
+kindOf true = Kind.answered
+kindOf false = Kind.told
 
 -- and so a fact taken in adds one test or none
 abbrev pub countOf : Bool → ℕ
