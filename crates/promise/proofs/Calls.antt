@@ -65,8 +65,14 @@ module _ {O I : Type 0} (image : O → I) (number : I → ℕ) (c : Call O) (sam
           done = λ e. (o, h .done (sym (same o) ∙ e), refl);
         }
 
-    pub crossing-fixed : Fixed c → Fixed (crossing image number c)
-    crossing-fixed fixed f i i₂ d d₂ = d .2 ∙ ap image (fixed f (d .0) (d₂ .0) (d .1) (d₂ .1)) ∙ sym (d₂ .2)
+    pub crossing-unique :
+        Fixed c → {i i₂ : I} → Owed (crossing image number c) i → Owed (crossing image number c) i₂ → i ≡ i₂
+    crossing-unique fixed =
+        owed-unique (crossing image number c) (λ f i i₂ d d₂.
+        d .2 ∙ ap image (fixed f (d .0) (d₂ .0) (d .1) (d₂ .1)) ∙ sym (d₂ .2))
+
+    unfoldable pub crossing-there : (o : O) × Owed c o → (i : I) × Owed (crossing image number c) i
+    crossing-there (o, h) = (image o, crossing-owed h)
 
 -- A call that may change session and table.
 

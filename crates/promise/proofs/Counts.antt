@@ -1,19 +1,22 @@
--- A call that writes to a lent buffer: two outcomes for one input are equal, there is one, and the buffer keeps its length, given that
--- what is to be written is fixed and there.
+-- Calls that count: two outcomes for one input are equal, there is one, and a buffer keeps its length, given that what is to be written
+-- is fixed and there.
 -- Assumes nothing.
 use mathlib.Core.Path.{_≡_, refl, sym, _∙_, ap, ap₂, subst}
-use mathlib.Core.Logic.{_≢_}
 use mathlib.Core.List.{List, [], _∷_, _++_, append-assoc}
 use Prim.Native.Nat.{ℕ, suc, _+_, _≤_, _<_}
 use native.Mathlib.Decide.{ℕ-discrete, decLt}
 use native.Mathlib.Omega.{arith}
 use lib.ListN.{length, getD, set, take, drop, length-append, length-drop}
 use lib.Seq.{drop-cons, append-snoc, drop-append-add, drop-drop, set-at, take-at}
+use Rattle.order.specs.Tables.{opens}
 use Rattle.order.specs.Refusals.{Condition, First}
-use Rattle.order.proofs.Refusals.{first-unique}
-use Rattle.promise.specs.declared.Wrote.{Wrote}
-use Rattle.promise.specs.declared.Wrote.the-variants.{Count, Refused}
-use Rattle.promise.specs.Buffers.{numberOf, placeOf, over, TooShort, WrittenIn, Writes}
+use Rattle.promise.specs.declared.Session.{Session}
+use Rattle.promise.specs.declared.Counted.{Counted}
+use Rattle.promise.specs.declared.Counted.the-variants.{Count}
+use Rattle.promise.specs.Calls.{Owed}
+use Rattle.promise.specs.Counts.{countNumber, openPairs, over, TooShort, writes}
+use Rattle.promise.proofs.Standing.{standing-there}
+use Rattle.promise.proofs.Calls.{Fixed, owed-unique, owed-there}
 
 -- a buffer that is long enough keeps its length
 pub over-fits : (w out : List ℕ) → length w ≤ length out → length (over w out) ≡ length out
@@ -68,49 +71,38 @@ too-short? P w p unique out = go (decLt (length out) (length w))
         no (λ z. h (subst (λ (u : List ℕ). length out < length u) (unique (z .0) w (z .1) p) (z .2)))
 
 module _ (refusals : List Condition) (P : List ℕ → Type 0) (out : List ℕ) where
-  pub writes-unique :
-      (First refusals 0 → (u v : List ℕ) → P u → P v → u ≡ v) → {r r₂ : Wrote} {out′ out₂ : List ℕ}
-      → Writes refusals P out r out′ → Writes refusals P out r₂ out₂ → (r ≡ r₂) × (out′ ≡ out₂)
-  writes-unique unique {r} {r₂} {out′} {out₂} h h₂ =
-      go r r₂ (first-unique refusals (numberOf r) (numberOf r₂) (h .number) (h₂ .number))
-      (h .place ∙ sym (h₂ .place)) (h .number) (h .buffer) (h₂ .buffer)
-    where
-      go :
-          (r r₂ : Wrote) → numberOf r ≡ numberOf r₂ → placeOf r ≡ placeOf r₂ → First refusals (numberOf r)
-          → WrittenIn P out out′ r → WrittenIn P out out₂ r₂ → (r ≡ r₂) × (out′ ≡ out₂)
-      go (Count c) (Count c₂) e z f x y =
-          let w = unique f (x .0) (y .0) (x .1) (y .1) in (
-            ap Count (x .2 ∙ ap (λ (u : List ℕ). length u) w ∙ sym (y .2)),
-            x .3 ∙ ap (λ (u : List ℕ). over u out) w ∙ sym (y .3),
-          )
-      go (Count c) (Refused k p) e z f x y = absurd (y .0 (sym e))
-      go (Refused k p) (Count c) e z f x y = absurd (x .0 e)
-      go (Refused k p) (Refused k₂ p₂) e z f x y = (ap₂ Refused e z, x .1 ∙ sym (y .1))
-
-  pub writes-refused : {k : ℕ} → First refusals k → k ≢ 0 → Writes refusals P out (Refused k 0) out
-  writes-refused f e = record { number = f; place = refl; buffer = (e, refl) }
+  pub writes-fixed : (First refusals 0 → (u v : List ℕ) → P u → P v → u ≡ v) → Fixed (writes refusals P out)
+  writes-fixed unique f o o₂ d d₂ =
+      d .2 ∙ ap (λ (w : List ℕ). (Count (length w), over w out)) (unique f (d .0) (d₂ .0) (d .1) (d₂ .1)) ∙ sym (d₂ .2)
 
   unfoldable pub writes-there :
       (k : ℕ) × First refusals k → (First refusals 0 → (w : List ℕ) × P w)
-      → (r : Wrote) × (out′ : List ℕ) × Writes refusals P out r out′
-  writes-there (k, f) made = go (ℕ-discrete k 0)
-    where
-      go : Dec (k ≡ 0) → (r : Wrote) × (out′ : List ℕ) × Writes refusals P out r out′
-      go (yes e) =
-          let g = rw e at f in
-          let w = made g in (
-            Count (length (w .0)),
-            over (w .0) out,
-            record { number = g; place = refl; buffer = (w .0, w .1, refl, refl) },
-          )
-      go (no e) = (Refused k 0, out, writes-refused f e)
+      → (o : Counted × List ℕ) × Owed (writes refusals P out) o
+  writes-there first made =
+      owed-there (writes refusals P out) (λ k. refl) first (λ f.
+      let w = made f in ((Count (length (w .0)), over (w .0) out), refl, (w .0, w .1, refl)))
 
   -- the length of a buffer stays
   pub writes-length :
-      (First refusals 0 → ¬ TooShort P out) → {r : Wrote} {out′ : List ℕ} → Writes refusals P out r out′
-      → length out′ ≡ length out
-  writes-length room {r} {out′} h = go r (h .number) (h .buffer)
+      (First refusals 0 → ¬ TooShort P out) → {o : Counted × List ℕ} → Owed (writes refusals P out) o
+      → length (o .1) ≡ length out
+  writes-length room {o} h = go (ℕ-discrete (countNumber (o .0)) 0)
     where
-      go : (r : Wrote) → First refusals (numberOf r) → WrittenIn P out out′ r → length out′ ≡ length out
-      go (Count c) f x = ap (λ (u : List ℕ). length u) (x .3) ∙ over-length P (x .0) out (x .1) (room f)
-      go (Refused k p) f x = ap (λ (u : List ℕ). length u) (x .1)
+      go : Dec (countNumber (o .0) ≡ 0) → length (o .1) ≡ length out
+      go (yes e) =
+          let d = h .done e in
+          ap (λ (x : Counted × List ℕ). length (x .1)) (d .2) ∙ over-length P (d .0) out (d .1) (room (rw e at (h .number)))
+      go (no e) = ap (λ (x : Counted × List ℕ). length (x .1)) (h .refused e)
+
+-- how many pairs are open
+
+pub open-pairs-fixed : (s : Session) (t : List ℕ) → Fixed (openPairs s t)
+open-pairs-fixed s t f r r₂ d d₂ = d ∙ sym d₂
+
+pub open-pairs-unique : (s : Session) (t : List ℕ) {r r₂ : Counted} → Owed (openPairs s t) r → Owed (openPairs s t) r₂ → r ≡ r₂
+open-pairs-unique s t = owed-unique (openPairs s t) (open-pairs-fixed s t)
+
+unfoldable pub open-pairs-there : (s : Session) (t : List ℕ) → (r : Counted) × Owed (openPairs s t) r
+open-pairs-there s t =
+    owed-there (openPairs s t) (λ k. refl) (standing-there [] s t (λ st. (0, refl))) (λ f.
+    (Count (opens (s .classes) t), refl, refl))

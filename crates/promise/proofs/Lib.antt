@@ -10,6 +10,7 @@ pub mod AnyOrder
 pub mod OneByOne
 pub mod Next
 pub mod Counts
+pub mod Crossing
 pub mod Hierarchy
 pub mod Ladder
 pub mod Book
