@@ -25,8 +25,8 @@ use Rattle.promise.proofs.Ladder.{number-most, to-go, through, ladder-unique}
 use Rattle.promise.proofs.Triangles.{steps-few}
 use Rattle.marks.proofs.Shape.{square}
 use Rattle.steps.specs.Found.{Ordered, Found, StepsNoted}
-use Rattle.rungs.specs.Climb.{Reached, Climbed}
-use Rattle.hierarchy.specs.Owed.{HierarchyLeft, HasLadder, LadderLeft}
+use Rattle.hierarchy.specs.Climb.{Reached, Climbed}
+use Rattle.hierarchy.specs.Left.{HierarchyLeft, HasLadder, LadderLeft}
 
 -- the first n bytes found are the heads
 pub heads-of : {n : ℕ} {t found : List ℕ} → Found n t found → HeadsOf n t (take n found)

@@ -12,7 +12,7 @@ use steps::list_steps;
 use steps::write_front;
 ghost use Rattle.promise.specs.Hierarchy.{HierarchyWritten};
 ghost use Rattle.steps.specs.Found.{Ordered};
-ghost use Rattle.hierarchy.specs.Owed.{HierarchyLeft};
+ghost use Rattle.hierarchy.specs.Left.{HierarchyLeft};
 
 // Room for all direct steps of 128 classes, two bytes each.
 const MOST_STEPS: usize = 8192;

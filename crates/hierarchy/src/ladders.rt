@@ -1,4 +1,5 @@
 // Ladders.
+use crate::rungs::climb;
 use marks::count_open;
 use marks::under;
 use promise::MOST_CLASSES;
@@ -8,12 +9,11 @@ use promise::NO_SUCH_CLASS;
 use promise::STILL_OPEN;
 use promise::Session;
 use promise::Wrote;
-use rungs::climb;
 use standing::refused;
 use standing::standing;
 use steps::find_heads;
 ghost use Rattle.promise.specs.Ladder.{LadderWritten};
-ghost use Rattle.hierarchy.specs.Owed.{HasLadder, LadderLeft};
+ghost use Rattle.hierarchy.specs.Left.{HasLadder, LadderLeft};
 
 // The ladder from a to b, where only 8 may still be due.
 fn write_ladder(n: usize, table: &[u8], a: usize, b: usize, rungs: &mut [u8]) -> Wrote

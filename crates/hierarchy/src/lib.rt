@@ -2,6 +2,7 @@
 // refusal.
 mod groups;
 mod ladders;
+mod rungs;
 
 pub use groups::hierarchy;
 pub use ladders::ladder;

@@ -11,7 +11,7 @@ ghost use Rattle.promise.specs.Hierarchy.{Under, Head, Direct};
 ghost use Rattle.promise.specs.Ladder.{NextRung};
 ghost use Rattle.steps.specs.Found.{Found};
 ghost use Rattle.steps.specs.Between.{ThirdsOf};
-ghost use Rattle.rungs.specs.Climb.{BelowGoal, Reached, Climbed};
+ghost use Rattle.hierarchy.specs.Climb.{BelowGoal, Reached, Climbed};
 
 // Whether c is directly above the rung, whose thirds are found, and under the goal.
 fn leads_on(

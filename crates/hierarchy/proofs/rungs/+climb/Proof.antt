@@ -1,4 +1,4 @@
--- `rungs::climb` meets its contract.
+-- `hierarchy::rungs::climb` meets its contract.
 -- Assumes nothing.
 use mathlib.Core.Path.{_∙_}
 use mathlib.Core.Logic.{⊎-elim}
@@ -6,15 +6,15 @@ use Prim.Native.Nat.{ℕ, _<_}
 use native.Mathlib.Omega.{arith}
 use lib.ListN.{length-set}
 use Rattle.promise.proofs.Ladder.{to-go, rung-falls}
-use Rattle.rungs.proofs.Climbing.{Beyond, beyond-none, beyond-next, climbed, not-climbed, at-top, not-top, next-reached}
+use Rattle.hierarchy.proofs.Climbing.{Beyond, beyond-none, beyond-next, climbed, not-climbed, at-top, not-top, next-reached}
 use borrow.Fn.Kinds.{In}
 use borrow.Fn.PlainCycle.{Measures, is, falls, and}
-use Rattle.rungs.proofs.climb.Reads as climb
-use Rattle.rungs.proofs.climb.Kinds as climb-kinds
-use Rattle.rungs.proofs.+climb.Lts-climb as climb-lts
-use Rattle.rungs.proofs.next_rung.Reads as next-rung-reads
-use Rattle.rungs.proofs.+climb.{statement}
-use Rattle.rungs.proofs.+climb.Tie.{close}
+use Rattle.hierarchy.proofs.rungs.climb.Reads as climb
+use Rattle.hierarchy.proofs.rungs.climb.Kinds as climb-kinds
+use Rattle.hierarchy.proofs.rungs.+climb.Lts-climb as climb-lts
+use Rattle.hierarchy.proofs.rungs.next_rung.Reads as next-rung-reads
+use Rattle.hierarchy.proofs.rungs.+climb.{statement}
+use Rattle.hierarchy.proofs.rungs.+climb.Tie.{close}
 
 abbrev μ-climb : Measures 3 climb-kinds.ps ℕ
 μ-climb κs a = to-go (a .0) (a .1 .0 .now) (a .1 .1 .1 .0) (a .1 .1 .1 .1 .0) .0

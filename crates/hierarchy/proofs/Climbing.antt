@@ -12,7 +12,7 @@ use Rattle.promise.specs.Ladder.{NextRung, Ladder}
 use Rattle.promise.proofs.Hierarchy.{head-unique}
 use Rattle.promise.proofs.Ladder.{to-go, rung-falls, head-of-equal}
 use Rattle.steps.specs.Found.{Found}
-use Rattle.rungs.specs.Climb.{BelowGoal, Reached, Climbed}
+use Rattle.hierarchy.specs.Climb.{BelowGoal, Reached, Climbed}
 
 -- the rungs beyond this one, and out₁ as the climb from there left it
 pub record Beyond (n : ℕ) (t : List ℕ) (goal rung before : ℕ) (out : List ℕ) (count : ℕ) (out₁ : List ℕ) : Type 0 where

@@ -1,4 +1,4 @@
--- `rungs::next_rung` meets its contract: there is a next rung, and each class that leads on is compared with the lowest so far.
+-- `hierarchy::rungs::next_rung` meets its contract: there is a next rung, and each class that leads on is compared with the lowest so far.
 -- Assumes nothing.
 use mathlib.Core.Logic.{⊎-elim}
 use mathlib.Core.List.{List}
@@ -10,8 +10,8 @@ use Rattle.promise.proofs.Ladder.{rung-there}
 use Rattle.marks.proofs.Answers.{refuted}
 use Rattle.steps.proofs.Between.{none-yet}
 use Rattle.steps.proofs.Lowest.{Lowest, lowest-none, lowest-pass, lowest-keep, lowest-take, lowest-least, lowest-has}
-use Rattle.rungs.proofs.next_rung.Statement.{statement}
-use Rattle.rungs.proofs.next_rung.Tie as tie
+use Rattle.hierarchy.proofs.rungs.next_rung.Statement.{statement}
+use Rattle.hierarchy.proofs.rungs.next_rung.Tie as tie
 
 -- c is directly above the rung and under the goal
 abbrev LeadsOn : ℕ → List ℕ → ℕ → ℕ → ℕ → Type 0

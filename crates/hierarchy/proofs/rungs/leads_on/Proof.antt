@@ -1,9 +1,9 @@
--- `rungs::leads_on` meets its contract.
+-- `hierarchy::rungs::leads_on` meets its contract.
 -- Assumes nothing.
 use borrow.Author.Needs.{needs}
 use Rattle.marks.proofs.Answers.{granted, denied, never}
-use Rattle.rungs.proofs.leads_on.Statement.{statement}
-use Rattle.rungs.proofs.leads_on.Tie as tie
+use Rattle.hierarchy.proofs.rungs.leads_on.Statement.{statement}
+use Rattle.hierarchy.proofs.rungs.leads_on.Tie as tie
 
 is-direct-requires : tie.Need-is-direct-requires
 is-direct-requires c κs = search needs
