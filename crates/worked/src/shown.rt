@@ -1,5 +1,5 @@
-// What a call gave, in words: its reply, how many marks are open, what next asks, and the marks row by row; or a count and the bytes of a
-// buffer.
+// What a call gave, in words: its reply, how many marks are open, what next asks, and the marks row by row; or a count
+// and the bytes of a buffer.
 use libc::STDOUT_FILENO;
 use promise::Question;
 use promise::Reply;
@@ -106,7 +106,8 @@ fn open_marks(table: &[u8]) -> usize {
     open
 }
 
-// A whole line: what the call replied, how many marks are open, what next gives, and the marks, unless they are too many to print.
+// A whole line: what the call replied, how many marks are open, what next gives, and the marks, unless they are too
+// many to print.
 pub fn reply(given: Reply, asked: Question, table: &[u8]) {
     let session = given.session;
     labelled(b"number ", given.number as usize);

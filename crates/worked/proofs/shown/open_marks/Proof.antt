@@ -1,12 +1,12 @@
--- `shown::open_marks` meets its contract: what is counted is at most what is passed.
+-- `worked::shown::open_marks` meets its contract: what is counted is at most what is passed.
 -- Assumes nothing.
 use Prim.Native.Nat.{_≤_, _-_}
 use native.Mathlib.Omega.{arith}
 use mathlib.Core.Logic.{⊎-elim}
 use lib.ListN.{length}
 use borrow.Author.Needs.{needs}
-use Rattle.shown.proofs.open_marks.Statement.{statement}
-use Rattle.shown.proofs.open_marks.Tie as tie
+use Rattle.worked.proofs.shown.open_marks.Statement.{statement}
+use Rattle.worked.proofs.shown.open_marks.Tie as tie
 
 abbrev Inv-loop : tie.InvT-loop
 Inv-loop table open₀ i₀ «open» i = (i ≤ length table) × («open» ≤ i)
