@@ -1,4 +1,4 @@
--- `passes::lines::row_flags` meets its contract: the row stands byte after byte.
+-- `passes::flags::row_flags` meets its contract: the row stands byte after byte.
 -- Assumes nothing.
 use mathlib.Core.Path.{_≡_, refl}
 use Prim.Native.Nat.{_-_, _+_}
@@ -8,8 +8,8 @@ use Rattle.order.specs.Tables.{mark}
 use Rattle.marks.specs.Shape.{IndexOf}
 use Rattle.marks.proofs.Shape.{along, tested, square}
 use Rattle.passes.proofs.Pass.{Gathered, gather-start, gather-next, gather-end}
-use Rattle.passes.proofs.lines.row_flags.Statement.{statement}
-use Rattle.passes.proofs.lines.row_flags.Tie as tie
+use Rattle.passes.proofs.flags.row_flags.Statement.{statement}
+use Rattle.passes.proofs.flags.row_flags.Tie as tie
 
 abbrev Inv-loop : tie.InvT-loop
 Inv-loop n table class wanted start flags₀ y₀ flags y = Gathered n (λ x. mark n table class x ≡ wanted) y flags

@@ -5,7 +5,7 @@ ghost use mathlib.Core.Path.{_≡_};
 ghost use Prim.Native.Nat.{_<_};
 ghost use Rattle.order.specs.Tables.{mark};
 ghost use Rattle.marks.specs.Shape.{Shape};
-ghost use Rattle.passes.specs.Marked.{FlagsOf};
+ghost use Rattle.passes.specs.Spread.{FlagsOf};
 
 // The classes at which the row of a class has this mark.
 pub fn row_flags(n: usize, table: &[u8], class: usize, wanted: u8) -> [bool; MOST_CLASSES]

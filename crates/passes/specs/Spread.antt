@@ -17,6 +17,6 @@ abbrev pub Becomes : Type 0 → ℕ → ℕ → ℕ → Type 0
 Becomes P v m m′ = (P × (m′ ≡ v)) ⊎ ((¬ P) × (m′ ≡ m))
 
 -- every pair of P has become v, every other is marked as before, and no byte from n*n on is changed
-pub record Marked (n : ℕ) (P : ℕ → ℕ → Type 0) (v : ℕ) (t t′ : List ℕ) : Type 0 where
+pub record Spread (n : ℕ) (P : ℕ → ℕ → Type 0) (v : ℕ) (t t′ : List ℕ) : Type 0 where
   pub each : (x y : ℕ) → x < n → y < n → Becomes (P x y) v (mark n t x y) (mark n t′ x y)
   pub rest : SameRest n t t′

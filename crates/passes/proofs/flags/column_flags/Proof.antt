@@ -1,4 +1,4 @@
--- `passes::lines::column_flags` meets its contract: one mark of each row is read.
+-- `passes::flags::column_flags` meets its contract: one mark of each row is read.
 -- Assumes nothing.
 use mathlib.Core.Path.{_≡_, refl}
 use Prim.Native.Nat.{_-_}
@@ -7,8 +7,8 @@ use borrow.Author.Needs.{needs}
 use Rattle.order.specs.Tables.{mark}
 use Rattle.marks.proofs.Shape.{tested}
 use Rattle.passes.proofs.Pass.{Gathered, gather-start, gather-next, gather-end}
-use Rattle.passes.proofs.lines.column_flags.Statement.{statement}
-use Rattle.passes.proofs.lines.column_flags.Tie as tie
+use Rattle.passes.proofs.flags.column_flags.Statement.{statement}
+use Rattle.passes.proofs.flags.column_flags.Tie as tie
 
 abbrev Inv-loop : tie.InvT-loop
 Inv-loop n table class wanted flags₀ x₀ flags x = Gathered n (λ y. mark n table y class ≡ wanted) x flags
