@@ -5,8 +5,8 @@ use promise::NO_ROOM;
 use promise::STILL_OPEN;
 use promise::Session;
 use promise::Wrote;
+use standing::first_refusal;
 use standing::refused;
-use standing::standing;
 use steps::find_heads;
 use steps::list_steps;
 use steps::write_front;
@@ -44,7 +44,7 @@ pub fn hierarchy(session: Session, table: &[u8], heads: &mut [u8], steps: &mut [
     ensures { λ r. ⌜ HierarchyWritten session (now (table .entry)) (now (heads .entry)) (now (steps .entry)) r
         (now (heads .exit)) (now (steps .exit)) ⌝ }
 {
-    let number = standing(session, table);
+    let number = first_refusal(session, table);
     if number != 0 {
         return refused(number);
     }

@@ -9,8 +9,8 @@ use promise::NO_SUCH_CLASS;
 use promise::STILL_OPEN;
 use promise::Session;
 use promise::Wrote;
+use standing::first_refusal;
 use standing::refused;
-use standing::standing;
 use steps::find_heads;
 ghost use Rattle.promise.specs.Ladder.{LadderWritten};
 ghost use Rattle.hierarchy.specs.Left.{HasLadder, LadderLeft};
@@ -35,7 +35,7 @@ fn write_ladder(n: usize, table: &[u8], a: usize, b: usize, rungs: &mut [u8]) ->
 pub fn ladder(session: Session, table: &[u8], a: usize, b: usize, rungs: &mut [u8]) -> Wrote
     ensures { λ r. ⌜ LadderWritten session (now (table .entry)) a b (now (rungs .entry)) r (now (rungs .exit)) ⌝ }
 {
-    let number = standing(session, table);
+    let number = first_refusal(session, table);
     if number != 0 {
         return refused(number);
     }

@@ -77,7 +77,7 @@ pub fn take(
 ) -> Reply
     ensures { λ r. ⌜ Took (kindOf counts) session (now (table .entry)) (factOn lower upper holds) r (now (table .exit)) ⌝ }
 {
-    let number = standing::standing(session, &*table);
+    let number = standing::first_refusal(session, &*table);
     if number != 0 {
         return refused(number, session);
     }

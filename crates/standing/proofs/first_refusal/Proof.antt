@@ -1,4 +1,5 @@
--- `standing::standing` meets its contract. Tests and open pairs are compared with no sum, so that no number of tests overflows.
+-- `standing::first_refusal` meets its contract. Tests and open pairs are compared with no sum, so that no number of tests
+-- overflows.
 -- Assumes nothing.
 use mathlib.Core.Path.{_≡_, refl}
 use mathlib.Core.Logic.{_⊎_, inl, inr, ⊎-elim}
@@ -9,8 +10,8 @@ use Rattle.order.specs.Tables.{Sound}
 use Rattle.promise.proofs.Standing.{square-above}
 use Rattle.marks.proofs.Answers.{granted, denied}
 use Rattle.marks.proofs.Shape.{square}
-use Rattle.standing.proofs.standing.Statement.{statement}
-use Rattle.standing.proofs.standing.Tie as tie
+use Rattle.standing.proofs.first_refusal.Statement.{statement}
+use Rattle.standing.proofs.first_refusal.Tie as tie
 
 -- past the tests of the class count it is 1 to 128; past the test of soundness the table is sound
 range : (e : tie.Else2) → let n = e .before .before .before .args .session .classes in ¬ ((n ≡ 0) ⊎ (128 < n))
@@ -73,8 +74,8 @@ returns-7 c =
       inr (λ l. omega arith, inr (sound (c .before .before .before), inr (λ l. omega arith, refl))),
     )
 
-pub standing-spec : {M : Type 1} → statement M
-standing-spec =
+pub first-refusal-spec : {M : Type 1} → statement M
+first-refusal-spec =
     tie.close
     (tie.spec
     returns
