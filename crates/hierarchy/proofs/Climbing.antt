@@ -11,7 +11,7 @@ use Rattle.promise.specs.Hierarchy.{HeadOf}
 use Rattle.promise.specs.Ladder.{NextRung, Ladder}
 use Rattle.promise.proofs.Hierarchy.{head-unique}
 use Rattle.promise.proofs.Ladder.{to-go, rung-falls, head-of-equal}
-use Rattle.steps.specs.Found.{Found}
+use Rattle.steps.specs.HeadsFound.{HeadsFound}
 use Rattle.hierarchy.specs.Climb.{BelowGoal, Reached, Climbed}
 
 -- the rungs beyond this one, and out₁ as the climb from there left it
@@ -87,7 +87,7 @@ module _ {n : ℕ} {t : List ℕ} {goal rung before : ℕ} {out : List ℕ} wher
           unwritten = h .unwritten;
         }
 
-module _ {n : ℕ} {t heads : List ℕ} {goal rung before : ℕ} (f : Found n t heads) (r : Reached n t goal rung before) where
+module _ {n : ℕ} {t heads : List ℕ} {goal rung before : ℕ} (f : HeadsFound n t heads) (r : Reached n t goal rung before) where
   -- at the goal's head the ladder ends; below it there is a next rung
   pub at-top : rung ≡ getD heads goal 0 → HeadOf n t goal rung
   at-top e = rw (← e) at (f .at goal (r .goal-below))
@@ -100,7 +100,7 @@ module _ {n : ℕ} {t heads : List ℕ} {goal rung before : ℕ} (f : Found n t 
         under = r .under;
         not-yet = λ back.
             differ
-            (head-unique (head-of-equal n t (f .ordered .sound) (r .goal-below) (r .head) (r .under) back)
+            (head-unique (head-of-equal n t (f .table .sound) (r .goal-below) (r .head) (r .under) back)
             (f .at goal (r .goal-below)));
       }
 
@@ -108,7 +108,7 @@ module _ {n : ℕ} {t heads : List ℕ} {goal rung before : ℕ} (f : Found n t 
   pub next-reached : {next : ℕ} → NextRung n t goal rung next → Reached n t goal next (before + 1)
   next-reached {next} d =
       let left = to-go n t goal next in
-      let falls = rung-falls n t (f .ordered .sound) d (left .1) (r .number) in
+      let falls = rung-falls n t (f .table .sound) d (left .1) (r .number) in
       record {
         goal-below = r .goal-below;
         head = d .direct .to;

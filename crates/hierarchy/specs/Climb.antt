@@ -14,7 +14,8 @@ pub record BelowGoal (n : ℕ) (t : List ℕ) (goal rung : ℕ) : Type 0 where
   pub under : Under n t rung goal
   pub not-yet : ¬ Under n t goal rung
 
--- a climb to the goal has come to rung, with this many rungs before it; the heads strictly above rung and under the goal bound what is left
+-- a climb to the goal has come to rung, with this many rungs before it; the heads strictly above rung and under the
+-- goal bound what is left
 pub record Reached (n : ℕ) (t : List ℕ) (goal rung before : ℕ) : Type 0 where
   pub goal-below : goal < n
   pub head : Head n t rung
@@ -23,8 +24,8 @@ pub record Reached (n : ℕ) (t : List ℕ) (goal rung before : ℕ) : Type 0 wh
   pub number : Number (Above n t goal rung) n left
   pub few : before + left ≤ n
 
--- With the rungs before it, the ladder from rung on makes count rungs. It is written behind them if out has room for all, and otherwise
--- no byte is written.
+-- With the rungs before it, the ladder from rung on makes count rungs. It is written behind them if out has room for
+-- all, and otherwise no byte is written.
 pub record Climbed (n : ℕ) (t : List ℕ) (goal rung before : ℕ) (out : List ℕ) (count : ℕ) (out′ : List ℕ) : Type 0 where
   pub rungs : List ℕ
   pub ladder : Ladder n t goal rung rungs

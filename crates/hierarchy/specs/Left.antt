@@ -10,7 +10,7 @@ use Rattle.promise.specs.Refusals.{noRoom}
 use Rattle.promise.specs.Buffers.{numberOf, placeOf, TooShort, Writes}
 use Rattle.promise.specs.Hierarchy.{Under, HeadsOf, StepBytes, HierarchyIn}
 use Rattle.promise.specs.Ladder.{LadderOf}
-use Rattle.steps.specs.Found.{Ordered}
+use Rattle.steps.specs.HeadsFound.{SoundTable}
 
 -- what hierarchy still owes where none of the refusals 1 to 4 and 7 is due
 pub record HierarchyLeft (n : ℕ) (t heads steps : List ℕ) (r : Wrote) (heads′ steps′ : List ℕ) : Type 0 where
@@ -20,7 +20,7 @@ pub record HierarchyLeft (n : ℕ) (t heads steps : List ℕ) (r : Wrote) (heads
 
 -- a sound table with room for its marks, and two of its classes, a under b
 pub record HasLadder (n : ℕ) (t : List ℕ) (a b : ℕ) : Type 0 where
-  pub ordered : Ordered n t
+  pub table : SoundTable n t
   pub lower-below : a < n
   pub upper-below : b < n
   pub under : Under n t a b

@@ -30,8 +30,9 @@ fn write_ladder(n: usize, table: &[u8], a: usize, b: usize, rungs: &mut [u8]) ->
     Wrote::Count(count)
 }
 
-// Writes the ladder from a to b, a byte a rung, and gives the count of rungs. Refuses with 1 to 4, with 5 if a or b is no class, with 7 if a
-// pair is open, with 9 if a is not under b, and with 8 if the buffer is too short; then no byte is written.
+// Writes the ladder from a to b, a byte a rung, and gives the count of rungs. Refuses with 1 to 4, with 5 if a or b is
+// no class, with 7 if a pair is open, with 9 if a is not under b, and with 8 if the buffer is too short; then no byte
+// is written.
 pub fn ladder(session: Session, table: &[u8], a: usize, b: usize, rungs: &mut [u8]) -> Wrote
     ensures { λ r. ⌜ LadderWritten session (now (table .entry)) a b (now (rungs .entry)) r (now (rungs .exit)) ⌝ }
 {

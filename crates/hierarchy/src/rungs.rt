@@ -9,7 +9,7 @@ ghost use mathlib.Core.Bool.{true};
 ghost use Prim.Native.Nat.{_<_};
 ghost use Rattle.promise.specs.Hierarchy.{Under, Head, Direct};
 ghost use Rattle.promise.specs.Ladder.{NextRung};
-ghost use Rattle.steps.specs.Found.{Found};
+ghost use Rattle.steps.specs.HeadsFound.{HeadsFound};
 ghost use Rattle.steps.specs.Between.{ThirdsOf};
 ghost use Rattle.hierarchy.specs.Climb.{BelowGoal, Reached, Climbed};
 
@@ -23,8 +23,8 @@ fn leads_on(
     rung: usize,
     c: usize,
 ) -> bool
-    requires { ⌜ (Found n (now table) (now heads)) × (ThirdsOf n (now table) rung (now thirds)) × (Head n (now table) rung)
-        × (goal < n) × (c < n) ⌝ }
+    requires { ⌜ (HeadsFound n (now table) (now heads)) × (ThirdsOf n (now table) rung (now thirds))
+        × (Head n (now table) rung) × (goal < n) × (c < n) ⌝ }
     ensures { λ r. ⌜ (r ≡ true) ↔ (Direct n (now (table .entry)) rung c × Under n (now (table .entry)) c goal) ⌝ }
 {
     let direct = is_direct(n, table, heads, thirds, rung, c);
@@ -34,9 +34,10 @@ fn leads_on(
     under(n, table, c, goal)
 }
 
-// The lowest-numbered head directly above the rung and under the goal. There is one, since the rung is not the goal's head.
+// The lowest-numbered head directly above the rung and under the goal. There is one, since the rung is not the goal's
+// head.
 fn next_rung(n: usize, table: &[u8], heads: &[u8], goal: usize, rung: usize) -> usize
-    requires { ⌜ (Found n (now table) (now heads)) × (BelowGoal n (now table) goal rung) ⌝ }
+    requires { ⌜ (HeadsFound n (now table) (now heads)) × (BelowGoal n (now table) goal rung) ⌝ }
     ensures { λ r. ⌜ NextRung n (now (table .entry)) goal rung r ⌝ }
 {
     let mut thirds: [bool; MOST_CLASSES] = [false; MOST_CLASSES];
@@ -53,8 +54,8 @@ fn next_rung(n: usize, table: &[u8], heads: &[u8], goal: usize, rung: usize) -> 
     next
 }
 
-// The ladder from this rung on, which stands behind the rungs before it. It is written from its top down, once the count of all rungs is
-// known and only if there is room for all of them. Gives that count.
+// The ladder from this rung on, which stands behind the rungs before it. It is written from its top down, once the
+// count of all rungs is known and only if there is room for all of them. Gives that count.
 pub fn climb(
     n: usize,
     table: &[u8],
@@ -64,7 +65,7 @@ pub fn climb(
     before: usize,
     rungs: &mut [u8],
 ) -> usize
-    requires { ⌜ (Found n (now table) (now heads)) × (Reached n (now table) goal rung before) ⌝ }
+    requires { ⌜ (HeadsFound n (now table) (now heads)) × (Reached n (now table) goal rung before) ⌝ }
     ensures { λ r. ⌜ Climbed n (now (table .entry)) goal rung before (now (rungs .entry)) r (now (rungs .exit)) ⌝ }
 {
     let top = heads[goal] as usize;

@@ -1,5 +1,5 @@
--- `standing::first_refusal` meets its contract. Tests and open pairs are compared with no sum, so that no number of tests
--- overflows.
+-- `standing::first_refusal` meets its contract. Tests and open pairs are compared with no sum, so that no number of
+-- tests overflows.
 -- Assumes nothing.
 use mathlib.Core.Path.{_≡_, refl}
 use mathlib.Core.Logic.{_⊎_, inl, inr, ⊎-elim}

@@ -72,7 +72,7 @@ write-ladder-requires c κs =
     let below = c .before .before .before .before .before in
     let st = passed (below .before .before) in
     record {
-      ordered = record { shape = shaped st; sound = st .sound };
+      table = record { shape = shaped st; sound = st .sound };
       lower-below = below .before .if2 .left;
       upper-below = below .if3 .left;
       under = granted (c .before .if5 .left) (c .before .before .under .ensures);

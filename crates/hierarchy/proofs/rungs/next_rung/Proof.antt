@@ -1,4 +1,5 @@
--- `hierarchy::rungs::next_rung` meets its contract: there is a next rung, and each class that leads on is compared with the lowest so far.
+-- `hierarchy::rungs::next_rung` meets its contract: there is a next rung, and each class that leads on is compared with
+-- the lowest so far.
 -- Assumes nothing.
 use mathlib.Core.Logic.{⊎-elim}
 use mathlib.Core.List.{List}
@@ -28,7 +29,7 @@ slice-aggregate-find-thirds c = search needs
 
 find-thirds-requires : tie.Need-find-thirds-requires Inv-loop μ-loop
 find-thirds-requires c κs =
-    let p = c .before .before .before .pre in (p .0, p .1 .head .below, none-yet (p .0 .ordered .shape .few))
+    let p = c .before .before .before .pre in (p .0, p .1 .head .below, none-yet (p .0 .table .shape .few))
 
 loop-holds : tie.Need-loop-holds Inv-loop μ-loop
 loop-holds c = lowest-none (λ z. absurd (omega arith))
@@ -61,7 +62,7 @@ returns c =
     let p = c .before .before .before .before .before .before .before .pre in
     let s = p .1 in
     let h = c .before .loop .inv in
-    let r = rung-there _ _ (p .0 .ordered .sound) (s .goal-below) (s .head) (s .under) (s .not-yet) .1 in
+    let r = rung-there _ _ (p .0 .table .sound) (s .goal-below) (s .head) (s .under) (s .not-yet) .1 in
     let found = lowest-has (c .loop-test .left) h (r .direct .to .below) (r .direct, r .under) in
     record {
       direct = found .1 .0;

@@ -10,13 +10,13 @@ use Rattle.marks.specs.Shape.{Shape}
 use Rattle.marks.specs.Noted.{Noted}
 
 -- at most 128 classes, room for their marks, and the marks sound
-pub record Ordered (n : ℕ) (t : List ℕ) : Type 0 where
+pub record SoundTable (n : ℕ) (t : List ℕ) : Type 0 where
   pub shape : Shape n t
   pub sound : Sound n t
 
 -- such a table, and the head of each of its classes
-pub record Found (n : ℕ) (t heads : List ℕ) : Type 0 where
-  pub ordered : Ordered n t
+pub record HeadsFound (n : ℕ) (t heads : List ℕ) : Type 0 where
+  pub table : SoundTable n t
   pub room : n ≤ length heads
   pub at : (a : ℕ) → a < n → HeadOf n t a (getD heads a 0)
 
