@@ -10,7 +10,7 @@ use promise::NO_ROOM;
 use promise::Session;
 use promise::YES_FACTS;
 use standing::first_refusal;
-use standing::refused;
+use standing::refused_count;
 ghost use mathlib.Core.List.{[], _∷_};
 ghost use Prim.Native.Nat.{_+_, _/_, _%_, _<_, _≤_};
 ghost use lib.ListN.{length};
@@ -80,7 +80,7 @@ fn write_book(n: usize, table: &[u8], out: &mut [u8]) -> Counted
     let yes = list_marked(n, table, YES, &mut out[..0]);
     let no = list_marked(n, table, NO, &mut out[..0]);
     if out.len() < 10 + 2 * (yes + no) {
-        return refused(NO_ROOM);
+        return refused_count(NO_ROOM);
     }
     let size = write_fields(n, table, out);
     Counted::Count(size)
@@ -92,7 +92,7 @@ pub fn write(session: Session, table: &[u8], out: &mut [u8]) -> Counted
 {
     let number = first_refusal(session, table);
     if number != 0 {
-        return refused(number);
+        return refused_count(number);
     }
     let n = session.classes;
     write_book(n, table, out)

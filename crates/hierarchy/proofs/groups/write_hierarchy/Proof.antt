@@ -9,12 +9,12 @@ use Rattle.hierarchy.proofs.Outcomes.{heads-short, steps-short, steps-f
 use Rattle.hierarchy.proofs.groups.write_hierarchy.Statement.{statement}
 use Rattle.hierarchy.proofs.groups.write_hierarchy.Tie as tie
 
-refused-requires : tie.Need-refused-requires
-refused-requires c κs = search needs
+refused-count-requires : tie.Need-refused-count-requires
+refused-count-requires c κs = search needs
 
 returns : tie.Need-returns
 returns c =
-    rw (c .refused .ensures) (heads-short (c .before .before .before .before .before .pre .sound) (c .before .if1 .taken))
+    rw (c .refused-count .ensures) (heads-short (c .before .before .before .before .before .pre .sound) (c .before .if1 .taken))
 
 slice-aggregate-find-heads : tie.Need-slice-aggregate-find-heads
 slice-aggregate-find-heads c = search needs
@@ -36,12 +36,12 @@ mul-if2 c =
     let l = c .before in
     omega (arith, steps-fit (l .before .before .before .before .before .before .before .before .before .before .pre) (l .list-steps .ensures))
 
-refused-requires-2 : tie.Need-refused-requires-2
-refused-requires-2 c κs = search needs
+refused-count-requires-2 : tie.Need-refused-count-requires-2
+refused-count-requires-2 c κs = search needs
 
 returns-2 : tie.Need-returns-2
 returns-2 c =
-    rw (c .refused2 .ensures) (steps-short (c .before .before .before .list-steps .ensures) (c .before .if2 .taken))
+    rw (c .refused-count2 .ensures) (steps-short (c .before .before .before .list-steps .ensures) (c .before .if2 .taken))
 
 slice-aggregate-write-front : tie.Need-slice-aggregate-write-front
 slice-aggregate-write-front c = search needs
@@ -80,7 +80,7 @@ pub write-hierarchy-spec : {M : Type 1} → statement M
 write-hierarchy-spec =
     tie.close
     (tie.spec
-    refused-requires
+    refused-count-requires
     returns
     slice-aggregate-find-heads
     find-heads-requires
@@ -88,7 +88,7 @@ write-hierarchy-spec =
     slice-aggregate-list-steps-2
     list-steps-requires
     mul-if2
-    refused-requires-2
+    refused-count-requires-2
     returns-2
     slice-aggregate-write-front
     write-front-requires
