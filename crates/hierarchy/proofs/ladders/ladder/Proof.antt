@@ -17,7 +17,8 @@ refused-requires c κs = search needs
 
 returns : tie.Need-returns
 returns c =
-    rw (c .refused .ensures) (ladder-standing _ _ _ _ _ _ (c .before .before .first-refusal .ensures) (c .before .if1 .taken))
+    rw (c .refused .ensures)
+    (ladder-standing _ _ _ _ _ _ (c .before .before .first-refusal .ensures) (c .before .if1 .taken))
 
 refused-requires-2 : tie.Need-refused-requires-2
 refused-requires-2 c κs = search needs

@@ -77,8 +77,8 @@ so-few : (c : tie.In-loop2 Inv-loop2 μ-loop2 Inv-loop μ-loop) → c .before .l
 so-few c =
     let turn = c .before .before .before .before .before .before .before in
     let l = turn .before in
-    few (c .before .loop2 .inv .1 .carry _ (l .loop .inv .1)) (l .before .before .before .before .pre .table .shape .few)
-    (turn .loop-test .taken) (c .loop2-test .taken)
+    few (c .before .loop2 .inv .1 .carry _ (l .loop .inv .1))
+    (l .before .before .before .before .pre .table .shape .few) (turn .loop-test .taken) (c .loop2-test .taken)
 
 mul-put-pair : tie.Need-mul-put-pair Inv-loop2 μ-loop2 Inv-loop μ-loop
 mul-put-pair c = omega (arith, so-few (c .before .before .before .before))
