@@ -72,7 +72,8 @@ module _ {n : ℕ} {t heads steps : List ℕ} where
 
       front : take (2 * count) listed ≡ bytesOf l
       front =
-          ap (λ (u : List ℕ). take (2 * count) u) (noted .written (omega (arith, all, size, steps-fit (f .table) (l, p, noted))))
+          ap (λ (u : List ℕ). take (2 * count) u)
+          (noted .written (omega (arith, all, size, steps-fit (f .table) (l, p, noted))))
           ∙ take-at (bytesOf l) (drop (length (bytesOf l)) out) (2 * count) all
 
       fits : ¬ (TooShort (HeadsOf n t) heads ⊎ TooShort (StepBytes n t) steps)
@@ -81,7 +82,8 @@ module _ {n : ℕ} {t heads steps : List ℕ} where
           omega (arith, ap (λ (u : List ℕ). length u) (step-bytes-unique w (bytesOf l) h (l, p, refl)), all)
 
 -- a climb from the head of a starts with no rung before it
-pub start-reached : {n : ℕ} {t heads : List ℕ} {a b : ℕ} → HeadsFound n t heads → HasLadder n t a b → Reached n t b (getD heads a 0) 0
+pub start-reached :
+    {n : ℕ} {t heads : List ℕ} {a b : ℕ} → HeadsFound n t heads → HasLadder n t a b → Reached n t b (getD heads a 0) 0
 start-reached {n} {t} {heads} {a} {b} f c =
     let sound = f .table .sound in
     let h = f .at a (c .lower-below) in
@@ -120,7 +122,8 @@ module _
         fits (l, p, short) =
             omega (
               arith,
-              ap (λ (u : List ℕ). length u) (ladder-unique n t (c .table .sound) (c .upper-below) l (k .rungs) p from-start),
+              ap (λ (u : List ℕ). length u)
+                  (ladder-unique n t (c .table .sound) (c .upper-below) l (k .rungs) p from-start),
             )
 
 -- the calls

@@ -70,15 +70,16 @@ fn numbers(line: &[u8], out: &mut [u8]) -> usize
     while i < line.len() {
         let letter = line[i];
         i += 1;
-        if is_digit(letter) {
-            value = with_digit(value, letter);
-            if !is_digit(byte_at(line, i, b' ')) {
-                if count < out.len() {
-                    out[count] = value;
-                    count += 1;
-                }
-                value = 0;
+        if !is_digit(letter) {
+            continue;
+        }
+        value = with_digit(value, letter);
+        if !is_digit(byte_at(line, i, b' ')) {
+            if count < out.len() {
+                out[count] = value;
+                count += 1;
             }
+            value = 0;
         }
     }
     count
