@@ -9,8 +9,8 @@ use promise::NO_ROOM;
 use promise::Session;
 use promise::Wrote;
 use promise::YES_FACTS;
+use standing::first_refusal;
 use standing::refused;
-use standing::standing;
 ghost use mathlib.Core.List.{[], _∷_};
 ghost use Prim.Native.Nat.{_+_, _/_, _%_, _<_, _≤_};
 ghost use lib.ListN.{length};
@@ -90,7 +90,7 @@ fn write_book(n: usize, table: &[u8], out: &mut [u8]) -> Wrote
 pub fn write(session: Session, table: &[u8], out: &mut [u8]) -> Wrote
     ensures { λ r. ⌜ BookWritten session (now (table .entry)) (now (out .entry)) r (now (out .exit)) ⌝ }
 {
-    let number = standing(session, table);
+    let number = first_refusal(session, table);
     if number != 0 {
         return refused(number);
     }

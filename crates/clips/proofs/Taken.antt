@@ -13,7 +13,7 @@ use Rattle.promise.specs.Clips.{ClipNo, MemberBeyond, clipRefusals, Clipped}
 use Rattle.promise.proofs.Standing.{Stands, first-stands}
 use Rattle.promise.proofs.Replies.{replies-refused}
 use Rattle.promise.proofs.Clips.{contrary, clip-step}
-use Rattle.passes.specs.Marked.{FlagsOf, Becomes, Marked}
+use Rattle.passes.specs.Spread.{FlagsOf, Becomes, Spread}
 use Rattle.session.specs.Facts.{replyOf}
 
 module _ {s : Session} {t : List ℕ} {played : List Bool} (st : Stands s t) where
@@ -38,7 +38,7 @@ module _ {s : Session} {t : List ℕ} {played : List Bool} (st : Stands s t) whe
     pub clip-taken :
         {others : List Bool} {t′ : List ℕ} → ¬ SomeContradicts (s .classes) t (ClipNo (s .classes) played)
         → FlagsOf (s .classes) (λ x. ¬ Flagged played x) others
-        → Marked (s .classes) (λ a b. Flagged played a × Flagged others b) 2 t t′ → Clipped s t played (replyOf 0 s) t′
+        → Spread (s .classes) (λ a b. Flagged played a × Flagged others b) 2 t t′ → Clipped s t played (replyOf 0 s) t′
     clip-taken {others} {t′} fine flags h =
         record {
           replies =

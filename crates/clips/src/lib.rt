@@ -46,7 +46,7 @@ fn take_standing(session: Session, table: &mut [u8], played: &[bool; MOST_CLASSE
 pub fn clip(session: Session, table: &mut [u8], clip: Clip) -> Reply
     ensures { λ r. ⌜ Clipped session (now (table .entry)) (clip .played) r (now (table .exit)) ⌝ }
 {
-    let number = standing::standing(session, &*table);
+    let number = standing::first_refusal(session, &*table);
     if number != 0 {
         return refused(number, session);
     }
@@ -57,7 +57,7 @@ pub fn clip(session: Session, table: &mut [u8], clip: Clip) -> Reply
 pub fn clip_bytes(session: Session, table: &mut [u8], played: &[u8]) -> Reply
     ensures { λ r. ⌜ ClippedByBytes session (now (table .entry)) (now (played .entry)) r (now (table .exit)) ⌝ }
 {
-    let number = standing::standing(session, &*table);
+    let number = standing::first_refusal(session, &*table);
     if number != 0 {
         return refused(number, session);
     }

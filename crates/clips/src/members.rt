@@ -10,7 +10,7 @@ ghost use Rattle.order.specs.Tables.{SomeContradicts};
 ghost use Rattle.promise.specs.Flags.{Flagged};
 ghost use Rattle.promise.specs.Clips.{ClipNo, MemberBeyond};
 ghost use Rattle.marks.specs.Shape.{Shape};
-ghost use Rattle.passes.specs.Marked.{FlagsOf};
+ghost use Rattle.passes.specs.Spread.{FlagsOf};
 ghost use Rattle.clips.specs.Seen.{UnderMembers};
 
 // Whether no class of n or more is a member.

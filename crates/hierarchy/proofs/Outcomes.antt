@@ -24,12 +24,12 @@ use Rattle.promise.proofs.Hierarchy.{head-head, heads-there, step-bytes-unique}
 use Rattle.promise.proofs.Ladder.{number-most, to-go, through, ladder-unique}
 use Rattle.promise.proofs.Triangles.{steps-few}
 use Rattle.marks.proofs.Shape.{square}
-use Rattle.steps.specs.Found.{Ordered, Found, StepsNoted}
-use Rattle.rungs.specs.Climb.{Reached, Climbed}
-use Rattle.hierarchy.specs.Owed.{HierarchyLeft, HasLadder, LadderLeft}
+use Rattle.steps.specs.HeadsFound.{SoundTable, HeadsFound, StepsNoted}
+use Rattle.hierarchy.specs.Climb.{Reached, Climbed}
+use Rattle.hierarchy.specs.Left.{HierarchyLeft, HasLadder, LadderLeft}
 
 -- the first n bytes found are the heads
-pub heads-of : {n : ℕ} {t found : List ℕ} → Found n t found → HeadsOf n t (take n found)
+pub heads-of : {n : ℕ} {t found : List ℕ} → HeadsFound n t found → HeadsOf n t (take n found)
 heads-of {n} {t} {found} f =
     record {
       size = length-take-le n found (f .room);
@@ -38,7 +38,7 @@ heads-of {n} {t} {found} f =
 
 -- "8,192 bytes of steps" are room for all of them
 pub steps-fit :
-    {n : ℕ} {t out out′ : List ℕ} {count : ℕ} → Ordered n t → StepsNoted n t out count out′ → 2 * count ≤ 8192
+    {n : ℕ} {t out out′ : List ℕ} {count : ℕ} → SoundTable n t → StepsNoted n t out count out′ → 2 * count ≤ 8192
 steps-fit {n} o (l, p, noted) = omega (arith, noted .counted, steps-few (o .sound) p, square n (o .shape .few))
 
 module _ {n : ℕ} {t heads steps : List ℕ} where
@@ -57,7 +57,7 @@ module _ {n : ℕ} {t heads steps : List ℕ} where
       too-short (inr (bytesOf l, (l, p, refl), omega (arith, noted .counted, length-bytes l)))
 
   pub hierarchy-done :
-      {found heads′ out listed steps′ : List ℕ} {count : ℕ} → Found n t found → n ≤ length heads
+      {found heads′ out listed steps′ : List ℕ} {count : ℕ} → HeadsFound n t found → n ≤ length heads
       → heads′ ≡ over (take n found) heads → length out ≡ 8192 → StepsNoted n t out count listed → 2 * count ≤ length steps
       → steps′ ≡ over (take (2 * count) listed) steps → HierarchyLeft n t heads steps (Count count) heads′ steps′
   hierarchy-done {found} {heads′} {out} {listed} {steps′} {count} f many heads-written size (l, p, noted) room written =
@@ -75,7 +75,7 @@ module _ {n : ℕ} {t heads steps : List ℕ} where
 
       front : take (2 * count) listed ≡ bytesOf l
       front =
-          ap (λ (u : List ℕ). take (2 * count) u) (noted .written (omega (arith, all, size, steps-fit (f .ordered) (l, p, noted))))
+          ap (λ (u : List ℕ). take (2 * count) u) (noted .written (omega (arith, all, size, steps-fit (f .table) (l, p, noted))))
           ∙ take-at (bytesOf l) (drop (length (bytesOf l)) out) (2 * count) all
 
       fits : ¬ (TooShort (HeadsOf n t) heads ⊎ TooShort (StepBytes n t) steps)
@@ -84,9 +84,9 @@ module _ {n : ℕ} {t heads steps : List ℕ} where
           omega (arith, ap (λ (u : List ℕ). length u) (step-bytes-unique w (bytesOf l) h (l, p, refl)), all)
 
 -- a climb from the head of a starts with no rung before it
-pub start-reached : {n : ℕ} {t heads : List ℕ} {a b : ℕ} → Found n t heads → HasLadder n t a b → Reached n t b (getD heads a 0) 0
+pub start-reached : {n : ℕ} {t heads : List ℕ} {a b : ℕ} → HeadsFound n t heads → HasLadder n t a b → Reached n t b (getD heads a 0) 0
 start-reached {n} {t} {heads} {a} {b} f c =
-    let sound = f .ordered .sound in
+    let sound = f .table .sound in
     let h = f .at a (c .lower-below) in
     let left = to-go n t b (getD heads a 0) in
     record {
@@ -133,7 +133,7 @@ module _
         fits (l, p, short) =
             omega (
               arith,
-              ap (λ (u : List ℕ). length u) (ladder-unique n t (c .ordered .sound) (c .upper-below) l (k .rungs) p from-start),
+              ap (λ (u : List ℕ). length u) (ladder-unique n t (c .table .sound) (c .upper-below) l (k .rungs) p from-start),
             )
 
 -- the calls

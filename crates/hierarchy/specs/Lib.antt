@@ -1,1 +1,2 @@
-pub mod Owed
+pub mod Climb
+pub mod Left

@@ -1,4 +1,5 @@
 // Ladders.
+use crate::rungs::climb;
 use marks::count_open;
 use marks::under;
 use promise::MOST_CLASSES;
@@ -8,12 +9,11 @@ use promise::NO_SUCH_CLASS;
 use promise::STILL_OPEN;
 use promise::Session;
 use promise::Wrote;
-use rungs::climb;
+use standing::first_refusal;
 use standing::refused;
-use standing::standing;
 use steps::find_heads;
 ghost use Rattle.promise.specs.Ladder.{LadderWritten};
-ghost use Rattle.hierarchy.specs.Owed.{HasLadder, LadderLeft};
+ghost use Rattle.hierarchy.specs.Left.{HasLadder, LadderLeft};
 
 // The ladder from a to b, where only 8 may still be due.
 fn write_ladder(n: usize, table: &[u8], a: usize, b: usize, rungs: &mut [u8]) -> Wrote
@@ -30,12 +30,13 @@ fn write_ladder(n: usize, table: &[u8], a: usize, b: usize, rungs: &mut [u8]) ->
     Wrote::Count(count)
 }
 
-// Writes the ladder from a to b, a byte a rung, and gives the count of rungs. Refuses with 1 to 4, with 5 if a or b is no class, with 7 if a
-// pair is open, with 9 if a is not under b, and with 8 if the buffer is too short; then no byte is written.
+// Writes the ladder from a to b, a byte a rung, and gives the count of rungs. Refuses with 1 to 4, with 5 if a or b is
+// no class, with 7 if a pair is open, with 9 if a is not under b, and with 8 if the buffer is too short; then no byte
+// is written.
 pub fn ladder(session: Session, table: &[u8], a: usize, b: usize, rungs: &mut [u8]) -> Wrote
     ensures { λ r. ⌜ LadderWritten session (now (table .entry)) a b (now (rungs .entry)) r (now (rungs .exit)) ⌝ }
 {
-    let number = standing(session, table);
+    let number = first_refusal(session, table);
     if number != 0 {
         return refused(number);
     }

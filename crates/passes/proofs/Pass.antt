@@ -14,7 +14,7 @@ use Rattle.order.proofs.Bytes.{rest-refl, rest-trans}
 use Rattle.marks.specs.Shape.{Shape, IndexOf}
 use Rattle.marks.proofs.Shape.{stored, rest-store}
 use Rattle.promise.specs.Flags.{Flagged}
-use Rattle.passes.specs.Marked.{FlagsOf, Becomes, Marked}
+use Rattle.passes.specs.Spread.{FlagsOf, Becomes, Spread}
 
 -- the flags of the classes below k are set as P says
 pub record Gathered (n : ℕ) (P : ℕ → Type 0) (k : ℕ) (flags : List Bool) : Type 0 where
@@ -46,13 +46,13 @@ module _ {n : ℕ} {P : ℕ → Type 0} where
   gather-end l h = record { at = λ x hx. h .set-so-far .at x (omega arith) }
 
 -- no pair is marked; the same pairs are said otherwise; the pairs of one pass and of the next
-pub marked-none : {n : ℕ} {P : ℕ → ℕ → Type 0} {v : ℕ} {t : List ℕ} → ((x y : ℕ) → ¬ P x y) → Marked n P v t t
-marked-none p = record { each = λ x y hx hy. inr (p x y, refl); rest = rest-refl _ }
+pub spread-none : {n : ℕ} {P : ℕ → ℕ → Type 0} {v : ℕ} {t : List ℕ} → ((x y : ℕ) → ¬ P x y) → Spread n P v t t
+spread-none p = record { each = λ x y hx hy. inr (p x y, refl); rest = rest-refl _ }
 
-module _ {n : ℕ} {P : ℕ → ℕ → Type 0} {v : ℕ} {t u : List ℕ} (h : Marked n P v t u) where
-  pub marked-same :
-      {Q : ℕ → ℕ → Type 0} → ((x y : ℕ) → x < n → y < n → P x y ↔ Q x y) → Marked n Q v t u
-  marked-same e =
+module _ {n : ℕ} {P : ℕ → ℕ → Type 0} {v : ℕ} {t u : List ℕ} (h : Spread n P v t u) where
+  pub spread-same :
+      {Q : ℕ → ℕ → Type 0} → ((x y : ℕ) → x < n → y < n → P x y ↔ Q x y) → Spread n Q v t u
+  spread-same e =
       record {
         each = λ x y hx hy.
             ⊎-elim (λ w. inl (e x y hx hy .0 (w .0), w .1)) (λ w. inr (λ q. w .0 (e x y hx hy .1 q), w .1))
@@ -60,10 +60,10 @@ module _ {n : ℕ} {P : ℕ → ℕ → Type 0} {v : ℕ} {t u : List ℕ} (h : 
         rest = h .rest;
       }
 
-  pub marked-both :
-      {Q R : ℕ → ℕ → Type 0} {w : List ℕ} → Marked n Q v u w → ((x y : ℕ) → R x y ↔ (P x y ⊎ Q x y))
-      → Marked n R v t w
-  marked-both {Q} {R} {w} k e =
+  pub spread-both :
+      {Q R : ℕ → ℕ → Type 0} {w : List ℕ} → Spread n Q v u w → ((x y : ℕ) → R x y ↔ (P x y ⊎ Q x y))
+      → Spread n R v t w
+  spread-both {Q} {R} {w} k e =
       record {
         each = λ x y hx hy. go x y (h .each x y hx hy) (k .each x y hx hy);
         rest = rest-trans (h .rest) (k .rest);
@@ -77,10 +77,10 @@ module _ {n : ℕ} {P : ℕ → ℕ → Type 0} {v : ℕ} {t u : List ℕ} (h : 
       go x y (inr p) (inr q) = inr (λ r. ⊎-elim (p .0) (q .0) (e x y .0 r), q .1 ∙ p .1)
 
 -- one pair is stored
-pub marked-store :
+pub spread-store :
     {n : ℕ} {t : List ℕ} {a b i v : ℕ} → Shape n t → IndexOf n a b i → b < n
-    → Marked n (λ x y. (x ≡ a) × (y ≡ b)) v t (set t i v)
-marked-store {n} {t} {a} {b} {i} {v} s at hb =
+    → Spread n (λ x y. (x ≡ a) × (y ≡ b)) v t (set t i v)
+spread-store {n} {t} {a} {b} {i} {v} s at hb =
     record {
       each = λ x y hx hy.
           ⊎-elim (λ w. inl ((w .0, w .1), w .2)) (λ w. inr (λ z. w .0 (z .0) (z .1), w .1))
@@ -115,11 +115,11 @@ passed-over flags k f x = (λ p. (omega (arith, p .0), p .1), λ p. go p (ℕ-di
 -- row a is marked up to column k
 pub record Row (n a : ℕ) (ys : List Bool) (v k : ℕ) (t u : List ℕ) : Type 0 where
   pub most : k ≤ n
-  pub marked : Marked n (λ x y. (x ≡ a) × Passed ys k y) v t u
+  pub spread : Spread n (λ x y. (x ≡ a) × Passed ys k y) v t u
 
 module _ {n a : ℕ} {ys : List Bool} {v : ℕ} where
   pub row-start : {t : List ℕ} → Row n a ys v 0 t t
-  row-start = record { most = omega arith; marked = marked-none (λ x y z. omega (arith, z .1 .0)) }
+  row-start = record { most = omega arith; spread = spread-none (λ x y z. omega (arith, z .1 .0)) }
 
   module _ {k : ℕ} {t u : List ℕ} (h : Row n a ys v k t u) (hk : k < n) where
     pub row-flagged :
@@ -127,7 +127,7 @@ module _ {n a : ℕ} {ys : List Bool} {v : ℕ} where
     row-flagged f s at =
         record {
           most = omega arith;
-          marked = marked-both (h .marked) (marked-store s at hk) (λ x y. (
+          spread = spread-both (h .spread) (spread-store s at hk) (λ x y. (
             λ z. ⊎-elim (λ p. inl (z .0, p)) (λ e. inr (z .0, e)) (passed-more ys k f y .0 (z .1)),
             ⊎-elim (λ z. (z .0, passed-more ys k f y .1 (inl (z .1))))
                 (λ z. (z .0, passed-more ys k f y .1 (inr (z .1)))),
@@ -138,31 +138,31 @@ module _ {n a : ℕ} {ys : List Bool} {v : ℕ} where
     row-over i e f =
         record {
           most = omega arith;
-          marked = rw (e, set-getD u i 0) (marked-same (h .marked) (λ x y hx hy. (
+          spread = rw (e, set-getD u i 0) (spread-same (h .spread) (λ x y hx hy. (
             λ z. (z .0, passed-over ys k f y .0 (z .1)),
             λ z. (z .0, passed-over ys k f y .1 (z .1)),
           )));
         }
 
-  pub row-end : {k : ℕ} {t u : List ℕ} → n ≤ k → Row n a ys v k t u → Marked n (λ x y. (x ≡ a) × Flagged ys y) v t u
-  row-end l h = marked-same (h .marked) (λ x y hx hy. (λ z. (z .0, z .1 .1), λ z. (z .0, (omega arith, z .1))))
+  pub row-end : {k : ℕ} {t u : List ℕ} → n ≤ k → Row n a ys v k t u → Spread n (λ x y. (x ≡ a) × Flagged ys y) v t u
+  row-end l h = spread-same (h .spread) (λ x y hx hy. (λ z. (z .0, z .1 .1), λ z. (z .0, (omega arith, z .1))))
 
 -- the rows before k are marked
 pub record Rows (n : ℕ) (xs ys : List Bool) (v k : ℕ) (t u : List ℕ) : Type 0 where
   pub most : k ≤ n
-  pub marked : Marked n (λ x y. Passed xs k x × Flagged ys y) v t u
+  pub spread : Spread n (λ x y. Passed xs k x × Flagged ys y) v t u
 
 module _ {n : ℕ} {xs ys : List Bool} {v : ℕ} where
   pub rows-start : {t : List ℕ} → Rows n xs ys v 0 t t
-  rows-start = record { most = omega arith; marked = marked-none (λ x y z. omega (arith, z .0 .0)) }
+  rows-start = record { most = omega arith; spread = spread-none (λ x y z. omega (arith, z .0 .0)) }
 
   module _ {k : ℕ} {t u : List ℕ} (h : Rows n xs ys v k t u) (hk : k < n) where
     pub rows-flagged :
-        {w : List ℕ} → Flagged xs k → Marked n (λ x y. (x ≡ k) × Flagged ys y) v u w → Rows n xs ys v (k + 1) t w
+        {w : List ℕ} → Flagged xs k → Spread n (λ x y. (x ≡ k) × Flagged ys y) v u w → Rows n xs ys v (k + 1) t w
     rows-flagged f m =
         record {
           most = omega arith;
-          marked = marked-both (h .marked) m (λ x y. (
+          spread = spread-both (h .spread) m (λ x y. (
             λ z. ⊎-elim (λ p. inl (p, z .1)) (λ e. inr (e, z .1)) (passed-more xs k f x .0 (z .0)),
             ⊎-elim (λ z. (passed-more xs k f x .1 (inl (z .0)), z .1))
                 (λ z. (passed-more xs k f x .1 (inr (z .0)), z .1)),
@@ -173,12 +173,12 @@ module _ {n : ℕ} {xs ys : List Bool} {v : ℕ} where
     rows-over f =
         record {
           most = omega arith;
-          marked = marked-same (h .marked) (λ x y hx hy. (
+          spread = spread-same (h .spread) (λ x y hx hy. (
             λ z. (passed-over xs k f x .0 (z .0), z .1),
             λ z. (passed-over xs k f x .1 (z .0), z .1),
           ));
         }
 
   pub rows-end :
-      {k : ℕ} {t u : List ℕ} → n ≤ k → Rows n xs ys v k t u → Marked n (λ x y. Flagged xs x × Flagged ys y) v t u
-  rows-end l h = marked-same (h .marked) (λ x y hx hy. (λ z. (z .0 .1, z .1), λ z. ((omega arith, z .0), z .1)))
+      {k : ℕ} {t u : List ℕ} → n ≤ k → Rows n xs ys v k t u → Spread n (λ x y. Flagged xs x × Flagged ys y) v t u
+  rows-end l h = spread-same (h .spread) (λ x y hx hy. (λ z. (z .0 .1, z .1), λ z. ((omega arith, z .0), z .1)))

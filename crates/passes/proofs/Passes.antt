@@ -14,13 +14,13 @@ use Rattle.order.proofs.Tables.{sound-table, marks-within, mark-against-settled
 use Rattle.order.proofs.Exactness.{consistent, contradicts-exact}
 use Rattle.order.proofs.Steps.{YesAfterYes, NoAfterYes, YesAfterNo, NoAfterNo, yes-after-yes-form, no-after-yes-form, yes-after-no-form, no-after-no-form, yes-step, no-step}
 use Rattle.promise.specs.Flags.{Flagged}
-use Rattle.passes.specs.Marked.{FlagsOf, Becomes, Marked}
-use Rattle.passes.specs.Taken.{Takes, TakenIn}
-use Rattle.passes.proofs.Pass.{marked-same}
+use Rattle.passes.specs.Spread.{FlagsOf, Becomes, Spread}
+use Rattle.passes.specs.Taken.{OpenPair, FactTaken}
+use Rattle.passes.proofs.Pass.{spread-same}
 
 -- no pair is both yes and no after a fact on an open pair
 never-both :
-    {n : ℕ} {t : List ℕ} (f : Fact) → Takes n t (f .lower) (f .upper) → (x y : ℕ) → x < n → y < n
+    {n : ℕ} {t : List ℕ} (f : Fact) → OpenPair n t (f .lower) (f .upper) → (x y : ℕ) → x < n → y < n
     → Yes (Marks n t with f) x y → No (Marks n t with f) x y → ⊥
 never-both {n} {t} f h x y hx hy =
     let below : Below n f = record { lower-below = h .lower-below; upper-below = h .upper-below } in
@@ -46,22 +46,22 @@ no-settled never e z =
     }
 
 -- a pass over flags is one over the classes that they flag
-over :
+flagged-pass :
     {n : ℕ} {X Y : ℕ → Type 0} {xs ys : List Bool} {v : ℕ} {t u : List ℕ} → FlagsOf n X xs → FlagsOf n Y ys
-    → Marked n (λ x y. Flagged xs x × Flagged ys y) v t u → Marked n (λ x y. X x × Y y) v t u
-over f g s = marked-same s (λ x y hx hy. Iff·and (f .at x hx) (g .at y hy))
+    → Spread n (λ x y. Flagged xs x × Flagged ys y) v t u → Spread n (λ x y. X x × Y y) v t u
+flagged-pass f g s = spread-same s (λ x y hx hy. Iff·and (f .at x hx) (g .at y hy))
 
-module _ {n : ℕ} {t : List ℕ} {c d : ℕ} (h : Takes n t c d) where
+module _ {n : ℕ} {t : List ℕ} {c d : ℕ} (h : OpenPair n t c d) where
   -- the one pass of a no
   pub no-taken :
       {above-c under-d : List Bool} {u : List ℕ} → FlagsOf n (λ y. mark n t c y ≡ 1) above-c
-      → FlagsOf n (λ x. mark n t x d ≡ 1) under-d → Marked n (λ x y. Flagged above-c x × Flagged under-d y) 2 t u
-      → TakenIn n (notUnder c d) t u
+      → FlagsOf n (λ x. mark n t x d ≡ 1) under-d → Spread n (λ x y. Flagged above-c x × Flagged under-d y) 2 t u
+      → FactTaken n (notUnder c d) t u
   no-taken {u = u} above under s =
       record { marks = no-step (h .sound) (h .lower-below) (h .upper-below) settles; rest = s .rest }
     where
       settles : (x y : ℕ) → x < n → y < n → Settles (mark n u x y) (YesAfterNo n t c d x y) (NoAfterNo n t c d x y)
-      settles x y hx hy = go (over above under s .each x y hx hy)
+      settles x y hx hy = go (flagged-pass above under s .each x y hx hy)
         where
           never : YesAfterNo n t c d x y → NoAfterNo n t c d x y → ⊥
           never p q =
@@ -82,7 +82,7 @@ module _ {n : ℕ} {t : List ℕ} {c d : ℕ} (h : Takes n t c d) where
                 two = (λ z. inl (sym e ∙ z), λ z. elim z [ inl q ↦ e ∙ q | inr q ↦ absurd (p .0 q) ]);
               }
 
-module _ {n : ℕ} {t : List ℕ} {a b : ℕ} (h : Takes n t a b) where
+module _ {n : ℕ} {t : List ℕ} {a b : ℕ} (h : OpenPair n t a b) where
   -- no pair is both yes and no after the fact
   never : (x y : ℕ) → x < n → y < n → YesAfterYes n t a b x y → NoAfterYes n t a b x y → ⊥
   never x y hx hy p q =
@@ -96,9 +96,9 @@ module _ {n : ℕ} {t : List ℕ} {a b : ℕ} (h : Takes n t a b) where
       {under-a above-b not-above-a not-under-b : List Bool} {u v w : List ℕ}
       → FlagsOf n (λ x. mark n t x a ≡ 1) under-a → FlagsOf n (λ y. mark n t b y ≡ 1) above-b
       → FlagsOf n (λ y. mark n t a y ≡ 2) not-above-a → FlagsOf n (λ x. mark n t x b ≡ 2) not-under-b
-      → Marked n (λ x y. Flagged under-a x × Flagged above-b y) 1 t u
-      → Marked n (λ x y. Flagged above-b x × Flagged not-above-a y) 2 u v
-      → Marked n (λ x y. Flagged not-under-b x × Flagged under-a y) 2 v w → TakenIn n (under a b) t w
+      → Spread n (λ x y. Flagged under-a x × Flagged above-b y) 1 t u
+      → Spread n (λ x y. Flagged above-b x × Flagged not-above-a y) 2 u v
+      → Spread n (λ x y. Flagged not-under-b x × Flagged under-a y) 2 v w → FactTaken n (under a b) t w
   yes-taken {u = u} {v = v} {w = w} under-a above-b not-above-a not-under-b s₁ s₂ s₃ =
       record {
         marks = yes-step (h .sound) (h .lower-below) (h .upper-below) (λ z. omega (arith, h .is-open)) settles;
@@ -107,8 +107,8 @@ module _ {n : ℕ} {t : List ℕ} {a b : ℕ} (h : Takes n t a b) where
     where
       settles : (x y : ℕ) → x < n → y < n → Settles (mark n w x y) (YesAfterYes n t a b x y) (NoAfterYes n t a b x y)
       settles x y hx hy =
-          go (over under-a above-b s₁ .each x y hx hy) (over above-b not-above-a s₂ .each x y hx hy)
-          (over not-under-b under-a s₃ .each x y hx hy)
+          go (flagged-pass under-a above-b s₁ .each x y hx hy) (flagged-pass above-b not-above-a s₂ .each x y hx hy)
+          (flagged-pass not-under-b under-a s₃ .each x y hx hy)
         where
           go :
               Becomes ((mark n t x a ≡ 1) × (mark n t b y ≡ 1)) 1 (mark n t x y) (mark n u x y)

@@ -15,9 +15,9 @@ use Rattle.order.proofs.Tables.{table-unique, table-of-equals}
 use Rattle.order.proofs.Exactness.{impossible-subset, table-possible}
 use Rattle.order.proofs.Bytes.{same-list, rest-sym, rest-trans}
 use Rattle.promise.specs.declared.Session.{Session}
-use Rattle.promise.specs.Runs.{StandsFor, Call, SaidBy, Said, Fits, AllFit, Made, Run, callsOf, Accepted, AllAccepted}
+use Rattle.promise.specs.Runs.{StandsFor, Intake, SaidBy, Said, Fits, AllFit, Made, Run, callsOf, Accepted, AllAccepted}
 use Rattle.promise.proofs.Taking.{leaves-stands}
-use Rattle.promise.proofs.Runs.{makes-leaves, makes-contradicted, run-stands, run-tests, run-rest}
+use Rattle.promise.proofs.Runs.{intake-leaves, intake-contradicted, run-stands, run-tests, run-rest}
 
 -- where all were accepted, the facts accepted are those said
 pub accepted-said : (n : ℕ) (made : List Made) → AllAccepted made → (f : Fact) → Accepted n made f ↔ Said n (callsOf made) f
@@ -38,19 +38,19 @@ accepted-said n (m ∷ later) all f =
     back q (inr i) = inr (q .1 i)
 
 -- what calls that fit say is on classes below n
-all-within : (n : ℕ) (calls : List Call) → AllFit n calls → Within n (Said n calls)
+all-within : (n : ℕ) (calls : List Intake) → AllFit n calls → Within n (Said n calls)
 all-within n [] fit f i = absurd i
-all-within n (Call.take kind g ∷ later) fit f (inl e) = rw e (fit .0)
-all-within n (Call.clip played ∷ later) fit f (inl i) = i .below
-all-within n (Call.take kind g ∷ later) fit f (inr i) = all-within n later (fit .1) f i
-all-within n (Call.clip played ∷ later) fit f (inr i) = all-within n later (fit .1) f i
+all-within n (Intake.fact kind g ∷ later) fit f (inl e) = rw e (fit .0)
+all-within n (Intake.clipped played ∷ later) fit f (inl i) = i .below
+all-within n (Intake.fact kind g ∷ later) fit f (inr i) = all-within n later (fit .1) f i
+all-within n (Intake.clipped played ∷ later) fit f (inr i) = all-within n later (fit .1) f i
 
 possible-accepted :
     {n : ℕ} (S : Facts) {s s′ : Session} {t t′ : List ℕ} {made : List Made} → s .classes ≡ n → StandsFor S s t
     → AllFit n (callsOf made) → Run s t made s′ t′ → ¬ Impossible n (S and Said n (callsOf made)) → AllAccepted made
 possible-accepted S c st fit Run.stop possible = tt
 possible-accepted {n} S {s} {s′} {t} {t′} c st fit (Run.call {m = m} {later = later} {t₁ = t₁} {r = r} h e run) possible =
-    let l = makes-leaves h first in (
+    let l = intake-leaves (m .call) s t h first in (
       sym e ∙ first,
       possible-accepted (S and SaidBy n (m .call)) (l .classes ∙ c)
           (subst (λ (k : ℕ). StandsFor (S and SaidBy k (m .call)) (r .session) t₁) c (leaves-stands l st)) (fit .1) run
@@ -67,7 +67,7 @@ possible-accepted {n} S {s} {s′} {t} {t′} c st fit (Run.call {m = m} {later 
     first : r .number ≡ 0
     first =
         stable (ℕ-discrete (r .number) 0) (λ z.
-        possible (impossible-subset fewer (rw c at (makes-contradicted (m .call) st fits h .0 .0 z))))
+        possible (impossible-subset fewer (rw c at (intake-contradicted (m .call) s t st fits h .0 .0 z))))
 
 module _
     {n : ℕ} (S : Facts) {s s′ : Session} {t t′ : List ℕ} {made : List Made} (c : s .classes ≡ n) (st : StandsFor S s t)

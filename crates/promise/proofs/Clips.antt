@@ -1,6 +1,6 @@
 -- Trial clips: one outcome for each input, and what an accepted or refused clip does.
 -- Assumes nothing.
-use mathlib.Core.Path.{_≡_, refl, sym, _∙_}
+use mathlib.Core.Path.{_≡_, refl, sym, _∙_, ap}
 use mathlib.Core.Logic.{_↔_, _≢_, _⊎_, inl, inr, Iff·symm, Iff·trans}
 use mathlib.Core.Bool.{Bool, true, false}
 use mathlib.Core.List.{List, []}
@@ -25,14 +25,15 @@ use Rattle.order.proofs.Taking.{choose, chosen, laid, mark-laid, length-laid}
 use Rattle.promise.specs.declared.Session.{Session}
 use Rattle.promise.specs.declared.Reply.{Reply}
 use Rattle.promise.specs.Refusals.{standing}
-use Rattle.promise.specs.Flags.{Flagged, flagsOf}
-use Rattle.promise.specs.Clips.{ClipNo, MemberBeyond, clipRefusals, Clipped, FlagsFit, bytesRefusals, ClippedByBytes}
+use Rattle.promise.specs.Sessions.{refusal, accepted}
+use Rattle.promise.specs.Calls.{Owed}
+use Rattle.promise.specs.Clips.{Flagged, flagsOf, ClipNo, MemberBeyond, clipRefusals, clip, FlagsFit, bytesRefusals, clipBytes}
 use Rattle.promise.specs.Runs.{StandsFor}
-use Rattle.promise.specs.Buffers.{over}
+use Rattle.promise.specs.Counts.{over}
 use Rattle.promise.proofs.Flags.{flagged?, flag-there}
 use Rattle.promise.proofs.Standing.{Stands, standing-passed, stood, stands-first, standing-refused, standing-map, first-stands, standing-there}
 use Rattle.promise.proofs.Taking.{Leaves, stands-of, leaves-keeps}
-use Rattle.promise.proofs.Replies.{reply, reply-same, replies-refused, replies-unique, replies-there}
+use Rattle.promise.proofs.Calls.{owed-refused, owed-done, changes-unique, changes-kept, changes-session, changes-there}
 
 -- The two refusals of the call itself are decided.
 
@@ -145,9 +146,9 @@ abbrev pub MarksAfterClip : Session → List ℕ → List Bool → List ℕ → 
 MarksAfterClip s t played u = TableOf (s .classes) (Marks (s .classes) t and ClipNo (s .classes) played) u
 
 pub clip-unique :
-    {s : Session} {t : List ℕ} {played : List Bool} {r r₂ : Reply} {t′ t₂ : List ℕ} → Clipped s t played r t′
-    → Clipped s t played r₂ t₂ → (r ≡ r₂) × (t′ ≡ t₂)
-clip-unique h h₂ = replies-unique (λ u v. table-unique) (h .replies) (h₂ .replies)
+    {s : Session} {t : List ℕ} {played : List Bool} {o o₂ : Reply × List ℕ} → Owed (clip s t played) o
+    → Owed (clip s t played) o₂ → o ≡ o₂
+clip-unique = changes-unique (λ u v. table-unique)
 
 -- what is known of an accepted clip
 pub clip-passed :
@@ -163,17 +164,14 @@ clip-passed s t played h = let p = standing-passed (clipRefusals s t played) h i
     own st (inr (p, inr (q, _))) = (st, p, q)
 
 unfoldable pub clip-there :
-    (s : Session) (t : List ℕ) (played : List Bool) → (r : Reply) × (t′ : List ℕ) × Clipped s t played r t′
+    (s : Session) (t : List ℕ) (played : List Bool) → (o : Reply × List ℕ) × Owed (clip s t played) o
 clip-there s t played =
-    let q =
-    replies-there (standing s t (clipRefusals s t played)) s s n (MarksAfterClip s t played) t
+    changes-there (standing s t (clipRefusals s t played)) s s n (MarksAfterClip s t played) t
     (standing-there (clipRefusals s t played) s t (λ st.
     stage 5 (beyond? n played) (λ p₅.
     stage 6 (clip-contradicts? n played t) (λ p₆. (0, refl)))))
     (λ g.
     (over (laid n marks) t, new g, front-rest n (laid n marks) t size (clip-passed s t played g .0 .room)))
-    in
-    (q .0, q .1, record { replies = q .2 })
   where
     n : ℕ
     n = s .classes
@@ -193,54 +191,47 @@ clip-there s t played =
               (clipped-table n t played (p .0 .sound) (p .2) .at a b ha hb);
         }
 
--- a refusal 1 to 4
-pub clip-not-standing :
-    {s : Session} {t : List ℕ} {played : List Bool} {k : ℕ} → First (standing s t []) k → k ≢ 0
-    → Clipped s t played (reply k 0 s) t
-clip-not-standing {s} {t} {played} {k} h ne =
-    record { replies = replies-refused (standing-refused (clipRefusals s t played) s t k h ne) ne }
-
 -- what an accepted clip leaves: no test is counted
 pub clip-leaves :
-    {s : Session} {t : List ℕ} {played : List Bool} {r : Reply} {t′ : List ℕ} → Clipped s t played r t′ → r .number ≡ 0
+    {s : Session} {t : List ℕ} {played : List Bool} {r : Reply} {t′ : List ℕ} → Owed (clip s t played) (r, t′) → r .number ≡ 0
     → Leaves (ClipNo (s .classes) played) s t (r .session) t′
 clip-leaves {s} {t} {played} {r} {t′} h e =
-    let p = clip-passed s t played (rw e at (h .replies .number)) in
-    rw (h .replies .session e)
+    let p = clip-passed s t played (rw e at (h .number)) in
+    rw (changes-session h e)
     (record {
       within = clip-within (s .classes) played;
       classes = refl;
-      marks = h .replies .marks e;
-      size = h .replies .rest e .size;
-      count = let le = opens-more-facts (λ f i. inl i) (sound-table (p .0 .sound)) (h .replies .marks e) in omega arith;
+      marks = h .done e .marks;
+      size = h .done e .rest .size;
+      count = let le = opens-more-facts (λ f i. inl i) (sound-table (p .0 .sound)) (h .done e .marks) in omega arith;
     })
 
 -- "Clips aren't counted as tests": accepted or refused, the session stays what it is
 pub clip-session :
-    {s : Session} {t : List ℕ} {played : List Bool} {r : Reply} {t′ : List ℕ} → Clipped s t played r t′ → r .session ≡ s
+    {s : Session} {t : List ℕ} {played : List Bool} {r : Reply} {t′ : List ℕ} → Owed (clip s t played) (r, t′) → r .session ≡ s
 clip-session {s = s} {r = r} h = go (ℕ-discrete (r .number) 0)
   where
     go : Dec (r .number ≡ 0) → r .session ≡ s
-    go (yes e) = h .replies .session e
-    go (no e) = h .replies .refused e .0
+    go (yes e) = changes-session h e
+    go (no e) = changes-kept h e .0
 
 -- and no more is open than was
 pub clip-opens :
-    {s : Session} {t : List ℕ} {played : List Bool} {r : Reply} {t′ : List ℕ} → Clipped s t played r t′
+    {s : Session} {t : List ℕ} {played : List Bool} {r : Reply} {t′ : List ℕ} → Owed (clip s t played) (r, t′)
     → opens (s .classes) t′ ≤ opens (s .classes) t
 clip-opens {s} {t} {r = r} {t′ = t′} h = go (ℕ-discrete (r .number) 0)
   where
     go : Dec (r .number ≡ 0) → opens (s .classes) t′ ≤ opens (s .classes) t
-    go (yes e) = let l = rw (h .replies .session e) at (clip-leaves h e .count) in omega arith
-    go (no e) = rw (h .replies .refused e .1) (omega arith)
+    go (yes e) = let l = rw (changes-session h e) at (clip-leaves h e .count) in omega arith
+    go (no e) = rw (changes-kept h e .1) (omega arith)
 
 -- "it is refused as contradictory exactly when no order agrees with all of them and the facts accepted before", and it is refused for no
 -- other reason
 pub clip-refused :
     {S : Facts} {s : Session} {t : List ℕ} {played : List Bool} {r : Reply} {t′ : List ℕ} → StandsFor S s t
-    → ¬ MemberBeyond (s .classes) played → Clipped s t played r t′
+    → ¬ MemberBeyond (s .classes) played → Owed (clip s t played) (r, t′)
     → ((r .number ≢ 0) ↔ Impossible (s .classes) (S and ClipNo (s .classes) played)) × (r .number ≢ 0 → r .number ≡ 6)
-clip-refused {S} {s} {t} {played} {r} st b h = go (stands-first (clipRefusals s t played) (stands-of st) (h .replies .number))
+clip-refused {S} {s} {t} {played} {r} st b h = go (stands-first (clipRefusals s t played) (stands-of st) (h .number))
   where
     n : ℕ
     n = s .classes
@@ -271,19 +262,18 @@ module _ (played other : List Bool) (same : (a : ℕ) → Flagged played a ↔ F
 
 pub clip-same-members :
     {s : Session} {t : List ℕ} (played other : List Bool) {r : Reply} {t′ : List ℕ}
-    → ((a : ℕ) → Flagged played a ↔ Flagged other a) → Clipped s t played r t′ → Clipped s t other r t′
+    → ((a : ℕ) → Flagged played a ↔ Flagged other a) → Owed (clip s t played) (r, t′) → Owed (clip s t other) (r, t′)
 clip-same-members {s} {t} played other {r} same h =
     record {
-      replies =
+      number = standing-map (clipRefusals s t played) (clipRefusals s t other) s t numbered (h .number);
+      refused = h .refused;
+      done = λ e.
           record {
-            number = standing-map (clipRefusals s t played) (clipRefusals s t other) s t numbered (h .replies .number);
-            place = h .replies .place;
-            refused = h .replies .refused;
-            session = h .replies .session;
-            marks = λ e.
+            reply = h .done e .reply;
+            marks =
                 table-of-equals (entails-subset (more other played turned)) (entails-subset (more played other same))
-                (h .replies .marks e);
-            rest = h .replies .rest;
+                (h .done e .marks);
+            rest = h .done e .rest;
           };
     }
   where
@@ -313,8 +303,8 @@ clip-same-members {s} {t} played other {r} same h =
 -- a clip whose noes are all marked already is accepted and changes nothing
 pub clip-agreeing :
     {s : Session} {t : List ℕ} {played : List Bool} {r : Reply} {t′ : List ℕ} → First (standing s t []) 0
-    → ¬ MemberBeyond (s .classes) played → ClipNo (s .classes) played ⊆ Marks (s .classes) t → Clipped s t played r t′
-    → (r ≡ reply 0 0 s) × (t′ ≡ t)
+    → ¬ MemberBeyond (s .classes) played → ClipNo (s .classes) played ⊆ Marks (s .classes) t → Owed (clip s t played) (r, t′)
+    → _≡_ {A = Reply × List ℕ} (r, t′) (accepted s, t)
 clip-agreeing {s} {t} {played} stands b marked h = clip-unique h agrees
   where
     st : Stands s t
@@ -324,61 +314,54 @@ clip-agreeing {s} {t} {played} stands b marked h = clip-unique h agrees
     more f (inl i) = i
     more f (inr i) = marked f i
 
-    agrees : Clipped s t played (reply 0 0 s) t
+    agrees : Owed (clip s t played) (accepted s, t)
     agrees =
-        record {
-          replies =
-              record {
-                number =
-                    first-stands (clipRefusals s t played) st
-                    (inr (
-                      b,
-                      inr (
-                        λ c. for-not-against (c .fact .holds) (sym (marked (c .fact) (c .said) .settled) ∙ c .against),
-                        refl,
-                      ),
-                    ));
-                place = refl;
-                refused = λ z. absurd (z refl);
-                session = λ _. refl;
-                marks = λ _.
-                    table-of-equals (entails-subset more) (entails-subset (λ f i. inl i)) (sound-table (st .sound));
-                rest = λ _. rest-refl t;
-              };
-        }
+        owed-done (clip s t played)
+        (first-stands (clipRefusals s t played) st
+        (inr (
+          b,
+          inr (
+            λ c. for-not-against (c .fact .holds) (sym (marked (c .fact) (c .said) .settled) ∙ c .against),
+            refl,
+          ),
+        )))
+        refl
+        (record {
+          reply = refl;
+          marks = table-of-equals (entails-subset more) (entails-subset (λ f i. inl i)) (sound-table (st .sound));
+          rest = rest-refl t;
+        })
 
 -- the same clip once more
 pub clip-again :
-    {s : Session} {t : List ℕ} {played : List Bool} {r r₂ : Reply} {t′ t₂ : List ℕ} → Clipped s t played r t′
-    → r .number ≡ 0 → Clipped (r .session) t′ played r₂ t₂ → (r₂ ≡ r) × (t₂ ≡ t′)
-clip-again {s} {t} {played} {r} {r₂} {t′} {t₂} h e again = (q .0 ∙ sym first, q .1)
+    {s : Session} {t : List ℕ} {played : List Bool} {r : Reply} {t′ : List ℕ} {o : Reply × List ℕ}
+    → Owed (clip s t played) (r, t′) → r .number ≡ 0 → Owed (clip (r .session) t′ played) o → o ≡ (r, t′)
+clip-again {s} {t} {played} {r} {t′} {o} h e again =
+    clip-agreeing {played = played} (first-stands [] (leaves-keeps (clip-leaves h e) (passed .0)) refl)
+    (rw (clip-session h) (passed .1)) (rw (clip-session h) marked) again
+    ∙ ap (λ (x : Reply). (x, t′)) (sym first)
   where
-    passed : Stands s t × (¬ MemberBeyond (s .classes) played) × (¬ SomeContradicts (s .classes) t (ClipNo (s .classes) played))
-    passed = clip-passed s t played (rw e at (h .replies .number))
+    first : r ≡ accepted (r .session)
+    first = h .done e .reply ∙ ap accepted (sym (clip-session h))
 
-    first : r ≡ reply 0 0 (r .session)
-    first = reply-same e (h .replies .place) refl
+    passed : Stands s t × (¬ MemberBeyond (s .classes) played) × (¬ SomeContradicts (s .classes) t (ClipNo (s .classes) played))
+    passed = clip-passed s t played (rw e at (h .number))
 
     marked : ClipNo (s .classes) played ⊆ Marks (s .classes) t′
     marked f i =
-        facts-in-marks (h .replies .marks e) (within-and marks-within (clip-within (s .classes) played)) f (inr i)
-
-    q : (r₂ ≡ reply 0 0 (r .session)) × (t₂ ≡ t′)
-    q =
-        clip-agreeing (first-stands [] (leaves-keeps (clip-leaves h e) (passed .0)) refl)
-        (rw (clip-session h) (passed .1)) (rw (clip-session h) marked) again
+        facts-in-marks (h .done e .marks) (within-and marks-within (clip-within (s .classes) played)) f (inr i)
 
 -- the clip that no class played
 pub clip-of-none :
     {s : Session} {t : List ℕ} {played : List Bool} {r : Reply} {t′ : List ℕ} → First (standing s t []) 0
-    → ((a : ℕ) → ¬ Flagged played a) → Clipped s t played r t′ → (r ≡ reply 0 0 s) × (t′ ≡ t)
+    → ((a : ℕ) → ¬ Flagged played a) → Owed (clip s t played) (r, t′) → _≡_ {A = Reply × List ℕ} (r, t′) (accepted s, t)
 clip-of-none stands none =
     clip-agreeing stands (λ b. none (b .class) (b .member)) (λ f h. absurd (none (f .lower) (h .member)))
 
 -- the clip that all n classes played
 pub clip-of-all :
     {s : Session} {t : List ℕ} {played : List Bool} {r : Reply} {t′ : List ℕ} → First (standing s t []) 0
-    → ((a : ℕ) → Flagged played a ↔ (a < s .classes)) → Clipped s t played r t′ → (r ≡ reply 0 0 s) × (t′ ≡ t)
+    → ((a : ℕ) → Flagged played a ↔ (a < s .classes)) → Owed (clip s t played) (r, t′) → _≡_ {A = Reply × List ℕ} (r, t′) (accepted s, t)
 clip-of-all stands all =
     clip-agreeing stands (λ b. let l = all (b .class) .0 (b .member) in omega (arith, b .beyond))
     (λ f h. absurd (h .non-member (all (f .upper) .1 (h .below .upper-below))))
@@ -391,56 +374,42 @@ flags-fit? n bytes =
     (both (decLe n (length bytes)) (decLe (length bytes) 128))
 
 pub bytes-unique :
-    {s : Session} {t bytes : List ℕ} {r r₂ : Reply} {t′ t₂ : List ℕ} → ClippedByBytes s t bytes r t′
-    → ClippedByBytes s t bytes r₂ t₂ → (r ≡ r₂) × (t′ ≡ t₂)
-bytes-unique h h₂ = replies-unique (λ u v. table-unique) (h .replies) (h₂ .replies)
+    {s : Session} {t bytes : List ℕ} {o o₂ : Reply × List ℕ} → Owed (clipBytes s t bytes) o
+    → Owed (clipBytes s t bytes) o₂ → o ≡ o₂
+bytes-unique = changes-unique (λ u v. table-unique)
 
-module _ {s : Session} {t bytes : List ℕ} where
-  -- where they fit, it is the clip of these flags
-  pub bytes-fit :
-      {r : Reply} {t′ : List ℕ} → Stands s t → FlagsFit (s .classes) bytes → Clipped s t (flagsOf bytes) r t′
-      → ClippedByBytes s t bytes r t′
-  bytes-fit st fit h =
-      record {
-        replies =
-            record {
-              number =
-                  first-stands (bytesRefusals s t bytes) st
-                  (inr (λ z. z fit, stands-first (clipRefusals s t (flagsOf bytes)) st (h .replies .number)));
-              place = h .replies .place;
-              refused = h .replies .refused;
-              session = h .replies .session;
-              marks = h .replies .marks;
-              rest = h .replies .rest;
-            };
-      }
+-- where they fit, it is the clip of these flags
+pub bytes-fit :
+    (s : Session) (t bytes : List ℕ) {o : Reply × List ℕ} → Stands s t → FlagsFit (s .classes) bytes
+    → Owed (clip s t (flagsOf bytes)) o → Owed (clipBytes s t bytes) o
+bytes-fit s t bytes st fit h =
+    record {
+      number =
+          first-stands (bytesRefusals s t bytes) st
+          (inr (λ z. z fit, stands-first (clipRefusals s t (flagsOf bytes)) st (h .number)));
+      refused = h .refused;
+      done = h .done;
+    }
 
-  -- where they do not, 5
-  pub bytes-misfit :
-      Stands s t → ¬ FlagsFit (s .classes) bytes → ClippedByBytes s t bytes (reply 5 0 s) t
-  bytes-misfit st fit =
-      record {
-        replies = replies-refused (first-stands (bytesRefusals s t bytes) st (inl (fit, refl))) (λ z. omega arith);
-      }
+-- where they do not, 5
+pub bytes-misfit :
+    (s : Session) (t bytes : List ℕ) → Stands s t → ¬ FlagsFit (s .classes) bytes → Owed (clipBytes s t bytes) (refusal 5 s, t)
+bytes-misfit s t bytes st fit =
+    owed-refused (clipBytes s t bytes) (λ k. refl) (first-stands (bytesRefusals s t bytes) st (inl (fit, refl))) (λ z. omega arith)
 
-  pub bytes-not-standing :
-      {k : ℕ} → First (standing s t []) k → k ≢ 0 → ClippedByBytes s t bytes (reply k 0 s) t
-  bytes-not-standing {k} h ne =
-      record { replies = replies-refused (standing-refused (bytesRefusals s t bytes) s t k h ne) ne }
-
-pub bytes-there :
-    (s : Session) (t bytes : List ℕ) → (r : Reply) × (t′ : List ℕ) × ClippedByBytes s t bytes r t′
+pub bytes-there : (s : Session) (t bytes : List ℕ) → (o : Reply × List ℕ) × Owed (clipBytes s t bytes) o
 bytes-there s t bytes = start (standing-there [] s t (λ st. (0, refl)))
   where
-    fits :
-        Stands s t → Dec (FlagsFit (s .classes) bytes)
-        → (r : Reply) × (t′ : List ℕ) × ClippedByBytes s t bytes r t′
-    fits st (yes fit) = let q = clip-there s t (flagsOf bytes) in (q .0, q .1, bytes-fit st fit (q .2))
-    fits st (no fit) = (reply 5 0 s, t, bytes-misfit st fit)
+    fits : Stands s t → Dec (FlagsFit (s .classes) bytes) → (o : Reply × List ℕ) × Owed (clipBytes s t bytes) o
+    fits st (yes fit) = let q = clip-there s t (flagsOf bytes) in (q .0, bytes-fit s t bytes st fit (q .1))
+    fits st (no fit) = ((refusal 5 s, t), bytes-misfit s t bytes st fit)
 
-    start : (k : ℕ) × First (standing s t []) k → (r : Reply) × (t′ : List ℕ) × ClippedByBytes s t bytes r t′
+    start : (k : ℕ) × First (standing s t []) k → (o : Reply × List ℕ) × Owed (clipBytes s t bytes) o
     start (k, h) = go (ℕ-discrete k 0)
       where
-        go : Dec (k ≡ 0) → (r : Reply) × (t′ : List ℕ) × ClippedByBytes s t bytes r t′
+        go : Dec (k ≡ 0) → (o : Reply × List ℕ) × Owed (clipBytes s t bytes) o
         go (yes e) = fits (stood s t k h e) (flags-fit? (s .classes) bytes)
-        go (no e) = (reply k 0 s, t, bytes-not-standing h e)
+        go (no e) = (
+          (refusal k s, t),
+          owed-refused (clipBytes s t bytes) (λ k. refl) (standing-refused (bytesRefusals s t bytes) s t k h e) e,
+        )

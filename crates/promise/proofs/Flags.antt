@@ -7,7 +7,7 @@ use Prim.Native.Nat.{ℕ, zero, suc, _≤_, _<_}
 use native.Mathlib.Omega.{arith}
 use lib.ListN.{getD, length}
 use Rattle.order.proofs.Sets.{yes-not-no}
-use Rattle.promise.specs.Flags.{Flagged}
+use Rattle.promise.specs.Clips.{Flagged}
 
 unfoldable pub set? : (b : Bool) → Dec (b ≡ true)
 set? true = yes refl

@@ -18,11 +18,12 @@ use Rattle.order.proofs.Counts.{opens-diagonal}
 use Rattle.order.proofs.Taking.{fresh-list, fresh-made, fresh-mark, length-laid}
 use Rattle.promise.specs.declared.Reply.{Reply}
 use Rattle.promise.specs.Sessions.{noSession, started}
-use Rattle.promise.specs.Fresh.{freshRefusals, Freshened}
+use Rattle.promise.specs.Calls.{Owed}
+use Rattle.promise.specs.Tell.{freshRefusals, fresh}
 use Rattle.promise.specs.Runs.{StandsFor}
-use Rattle.promise.specs.Buffers.{over}
+use Rattle.promise.specs.Counts.{over}
 use Rattle.promise.proofs.Standing.{first-stands}
-use Rattle.promise.proofs.Replies.{replies-unique, replies-there}
+use Rattle.promise.proofs.Calls.{changes-unique, changes-session, changes-there}
 
 fresh-same : {n : ℕ} {t t′ : List ℕ} → Fresh n t → Fresh n t′ → SameMarks n t t′
 fresh-same {n} {t} {t′} h h′ = record { at = λ a b ha hb. go a b ha hb (ℕ-discrete a b) }
@@ -32,9 +33,8 @@ fresh-same {n} {t} {t′} h h′ = record { at = λ a b ha hb. go a b ha hb (ℕ
     go a b ha hb (no e) = h .elsewhere a b ha hb e ∙ sym (h′ .elsewhere a b ha hb e)
 
 pub fresh-unique :
-    {n : ℕ} {t : List ℕ} {r r₂ : Reply} {t′ t₂ : List ℕ} → Freshened n t r t′ → Freshened n t r₂ t₂
-    → (r ≡ r₂) × (t′ ≡ t₂)
-fresh-unique h h₂ = replies-unique (λ u v. fresh-same) (h .replies) (h₂ .replies)
+    {n : ℕ} {t : List ℕ} {o o₂ : Reply × List ℕ} → Owed (fresh n t) o → Owed (fresh n t) o₂ → o ≡ o₂
+fresh-unique = changes-unique (λ u v. fresh-same)
 
 -- what an accepted class count is
 pub fresh-passed : (n : ℕ) (t : List ℕ) → First (freshRefusals n t) 0 → (1 ≤ n) × (n ≤ 128) × (n * n ≤ length t)
@@ -53,24 +53,21 @@ fresh-accepted t some few room (inl (inr e, _)) = absurd (omega arith)
 fresh-accepted t some few room (inr (_, inl (e, _))) = absurd (omega arith)
 fresh-accepted t some few room (inr (_, inr (_, e))) = e
 
-pub fresh-numbers : {n : ℕ} {t : List ℕ} {r : Reply} {t′ : List ℕ} → Freshened n t r t′ → r .number ≤ 2
-fresh-numbers {n} {t} {r} h = go (h .replies .number)
+pub fresh-numbers : {n : ℕ} {t : List ℕ} {r : Reply} {t′ : List ℕ} → Owed (fresh n t) (r, t′) → r .number ≤ 2
+fresh-numbers {n} {t} {r} h = go (h .number)
   where
     go : First (freshRefusals n t) (r .number) → r .number ≤ 2
     go (inl (_, e)) = omega arith
     go (inr (_, inl (_, e))) = omega arith
     go (inr (_, inr (_, e))) = omega arith
 
-unfoldable pub fresh-there : (n : ℕ) (t : List ℕ) → (r : Reply) × (t′ : List ℕ) × Freshened n t r t′
+unfoldable pub fresh-there : (n : ℕ) (t : List ℕ) → (o : Reply × List ℕ) × Owed (fresh n t) o
 fresh-there n t =
-    let q =
-    replies-there (freshRefusals n t) noSession (started n) n (Fresh n) t
+    changes-there (freshRefusals n t) noSession (started n) n (Fresh n) t
     (stage 1 (either (ℕ-discrete n 0) (decLt 128 n)) (λ p₁.
     stage 2 (decLt (length t) (n * n)) (λ p₂. (0, refl))))
     (λ f.
     (over (fresh-list n) t, new, front-rest n (fresh-list n) t size (fresh-passed n t f .2)))
-    in
-    (q .0, q .1, record { replies = q .2 })
   where
     size : length (fresh-list n) ≡ n * n
     size = length-laid n fresh-mark
@@ -84,9 +81,9 @@ fresh-there n t =
         }
 
 -- an accepted fresh stands for the empty set of facts
-pub fresh-stands : {n : ℕ} {t : List ℕ} {r : Reply} {t′ : List ℕ} → Freshened n t r t′ → r .number ≡ 0 → StandsFor (Listed []) (r .session) t′
+pub fresh-stands : {n : ℕ} {t : List ℕ} {r : Reply} {t′ : List ℕ} → Owed (fresh n t) (r, t′) → r .number ≡ 0 → StandsFor (Listed []) (r .session) t′
 fresh-stands {n} {t} {r} {t′} h e =
-    rw (h .replies .session e)
+    rw (changes-session h e)
     (record {
       within = λ f m. absurd (List·Memᴰ·not-nil m);
       table = table;
@@ -95,15 +92,15 @@ fresh-stands {n} {t} {r} {t′} h e =
           (record {
             some = passed .0;
             few = passed .1;
-            room = omega (arith, passed .2, h .replies .rest e .size);
+            room = omega (arith, passed .2, h .done e .rest .size);
             sound = table-sound table;
-            count = omega (arith, opens-diagonal n t′ (λ a ha z. omega (arith, h .replies .marks e .diagonal a ha)));
+            count = omega (arith, opens-diagonal n t′ (λ a ha z. omega (arith, h .done e .marks .diagonal a ha)));
           })
           refl;
     })
   where
     passed : (1 ≤ n) × (n ≤ 128) × (n * n ≤ length t)
-    passed = fresh-passed n t (rw e at (h .replies .number))
+    passed = fresh-passed n t (rw e at (h .number))
 
     table : TableOf n (Listed []) t′
-    table = fresh-table (λ f m. absurd (List·Memᴰ·not-nil m)) (h .replies .marks e)
+    table = fresh-table (λ f m. absurd (List·Memᴰ·not-nil m)) (h .done e .marks)

@@ -14,16 +14,17 @@ use Rattle.order.specs.Tables.{mark, Sound, opens}
 use Rattle.order.specs.Pairs.{Pair, bytesOf}
 use Rattle.order.specs.Refusals.{First}
 use Rattle.order.proofs.Decide.{both, either, implies, negated, as-well, all-below, least}
-use Rattle.order.proofs.Refusals.{first-unique, stage}
+use Rattle.order.proofs.Refusals.{stage}
 use Rattle.order.proofs.Pairs.{lists-unique, pairsOf, pairs-listed}
 use Rattle.promise.specs.declared.Session.{Session}
-use Rattle.promise.specs.declared.Wrote.{Wrote}
-use Rattle.promise.specs.declared.Wrote.the-variants.{Count, Refused}
-use Rattle.promise.specs.Refusals.{standing}
-use Rattle.promise.specs.Buffers.{numberOf, placeOf, over, TooShort}
-use Rattle.promise.specs.Hierarchy.{Under, Equal, HeadOf, Head, Third, Direct, HeadsOf, StepsOf, StepBytes, hierarchyRefusals, HierarchyIn, HierarchyWritten}
+use Rattle.promise.specs.declared.Counted.{Counted}
+use Rattle.promise.specs.declared.Counted.the-variants.{Count}
+use Rattle.promise.specs.Calls.{Owed}
+use Rattle.promise.specs.Counts.{countNumber, over, TooShort}
+use Rattle.promise.specs.Hierarchy.{Under, Equal, HeadOf, Head, Third, Direct, HeadsOf, StepsOf, StepBytes, hierarchyRefusals, hierarchy}
 use Rattle.promise.proofs.Standing.{Stands, standing-passed, stands-first, standing-there}
-use Rattle.promise.proofs.Buffers.{over-length, too-short?}
+use Rattle.promise.proofs.Calls.{Fixed, owed-unique, owed-there}
+use Rattle.promise.proofs.Counts.{over-length, too-short?}
 
 -- one head, one list of heads, one list of steps
 
@@ -148,104 +149,77 @@ heads-there n t sound =
 
 -- the call
 
-pub hierarchy-unique :
-    {s : Session} {t heads steps : List ℕ} {r r₂ : Wrote} {heads′ steps′ heads₂ steps₂ : List ℕ}
-    → HierarchyWritten s t heads steps r heads′ steps′ → HierarchyWritten s t heads steps r₂ heads₂ steps₂
-    → (r ≡ r₂) × (heads′ ≡ heads₂) × (steps′ ≡ steps₂)
-hierarchy-unique {s} {t} {heads} {steps} {r} {r₂} {heads′} {steps′} {heads₂} {steps₂} h h₂ =
-    go r r₂
-    (first-unique (standing s t (hierarchyRefusals s t heads steps)) (numberOf r) (numberOf r₂) (h .number) (h₂ .number))
-    (h .place ∙ sym (h₂ .place)) (h .buffers) (h₂ .buffers)
-  where
-    go :
-        (r r₂ : Wrote) → numberOf r ≡ numberOf r₂ → placeOf r ≡ placeOf r₂
-        → HierarchyIn (s .classes) t heads steps heads′ steps′ r → HierarchyIn (s .classes) t heads steps heads₂ steps₂ r₂
-        → (r ≡ r₂) × (heads′ ≡ heads₂) × (steps′ ≡ steps₂)
-    go (Count c) (Count c₂) e z (g, l) (g₂, l₂) =
-        let hs = heads-unique (g .0) (g₂ .0) (g .1) (g₂ .1) in
-        let ls = lists-unique (l .1) (l₂ .1) in (
-          ap Count (l .2 ∙ ap (λ (m : List Pair). length m) ls ∙ sym (l₂ .2)),
-          g .2 ∙ ap (λ (m : List ℕ). over m heads) hs ∙ sym (g₂ .2),
-          l .3 ∙ ap (λ (m : List Pair). over (bytesOf m) steps) ls ∙ sym (l₂ .3),
-        )
-    go (Count c) (Refused k p) e z x y = absurd (y .0 (sym e))
-    go (Refused k p) (Count c) e z x y = absurd (x .0 e)
-    go (Refused k p) (Refused k₂ p₂) e z x y = (ap₂ Refused e z, x .1 ∙ sym (y .1), x .2 ∙ sym (y .2))
+module _ (s : Session) (t heads steps : List ℕ) where
+  abbrev both-short : Type 0
+  both-short = TooShort (HeadsOf (s .classes) t) heads ⊎ TooShort (StepBytes (s .classes) t) steps
 
--- 7 is given exactly where pairs are counted as open and none of 1 to 4 is due
-pub hierarchy-seven :
-    {s : Session} {t heads steps : List ℕ} {r : Wrote} {heads′ steps′ : List ℕ} → Stands s t
-    → HierarchyWritten s t heads steps r heads′ steps′ → (numberOf r ≡ 7) ↔ (opens (s .classes) t ≢ 0)
-hierarchy-seven {s} {t} {heads} {steps} {r} st h =
-    go (stands-first (hierarchyRefusals s t heads steps) st (h .number))
-  where
-    go : First (hierarchyRefusals s t heads steps) (numberOf r) → (numberOf r ≡ 7) ↔ (opens (s .classes) t ≢ 0)
-    go (inl (some, e)) = (λ _ z. omega arith, λ _. e)
-    go (inr (none, inl (_, e))) = (λ z. absurd (omega arith), λ z. absurd (omega arith))
-    go (inr (none, inr (_, e))) = (λ z. absurd (omega arith), λ z. absurd (omega arith))
+  -- what is known where a hierarchy is written
+  hierarchy-fits : First (hierarchyRefusals s t heads steps) 0 → ¬ both-short
+  hierarchy-fits (inl z) = absurd (omega (arith, z .1))
+  hierarchy-fits (inr (_, inl z)) = absurd (omega (arith, z .1))
+  hierarchy-fits (inr (_, inr z)) = z .0
 
--- the lengths of both buffers stay
-pub hierarchy-lengths :
-    {s : Session} {t heads steps : List ℕ} {r : Wrote} {heads′ steps′ : List ℕ}
-    → HierarchyWritten s t heads steps r heads′ steps′ → (length heads′ ≡ length heads) × (length steps′ ≡ length steps)
-hierarchy-lengths {s} {t} {heads} {steps} {r} {heads′} {steps′} h = go r (h .number) (h .buffers)
-  where
-    n : ℕ
-    n = s .classes
+  pub hierarchy-fixed : Fixed (hierarchy s t heads steps)
+  hierarchy-fixed f o o₂ d d₂ =
+      d .4
+      ∙ ap₂ (λ (hs : List ℕ) (l : List Pair). (Count (length l), (over hs heads, over (bytesOf l) steps)))
+      (heads-unique (d .0) (d₂ .0) (d .2) (d₂ .2)) (lists-unique (d .3) (d₂ .3))
+      ∙ sym (d₂ .4)
 
-    room :
-        First (hierarchyRefusals s t heads steps) 0 → ¬ (TooShort (HeadsOf n t) heads ⊎ TooShort (StepBytes n t) steps)
-    room (inl z) = absurd (omega (arith, z .1))
-    room (inr (_, inl z)) = absurd (omega (arith, z .1))
-    room (inr (_, inr z)) = z .0
+  pub hierarchy-unique :
+      {o o₂ : Counted × (List ℕ × List ℕ)} → Owed (hierarchy s t heads steps) o → Owed (hierarchy s t heads steps) o₂ → o ≡ o₂
+  hierarchy-unique = owed-unique (hierarchy s t heads steps) hierarchy-fixed
 
-    go :
-        (r : Wrote) → First (standing s t (hierarchyRefusals s t heads steps)) (numberOf r)
-        → HierarchyIn n t heads steps heads′ steps′ r → (length heads′ ≡ length heads) × (length steps′ ≡ length steps)
-    go (Count c) f (g, l) =
-        let q = room (standing-passed (hierarchyRefusals s t heads steps) f .1) in (
-          ap (λ (u : List ℕ). length u) (g .2) ∙ over-length (HeadsOf n t) (g .0) heads (g .1) (λ z. q (inl z)),
-          ap (λ (u : List ℕ). length u) (l .3)
-              ∙ over-length (StepBytes n t) (bytesOf (l .0)) steps (l .0, l .1, refl) (λ z. q (inr z)),
-        )
-    go (Refused k p) f x = (ap (λ (u : List ℕ). length u) (x .1), ap (λ (u : List ℕ). length u) (x .2))
+  unfoldable pub hierarchy-there : (o : Counted × (List ℕ × List ℕ)) × Owed (hierarchy s t heads steps) o
+  hierarchy-there =
+      owed-there (hierarchy s t heads steps) (λ k. refl)
+      (standing-there (hierarchyRefusals s t heads steps) s t (λ st.
+      stage 7 (decLt 0 (opens n t)) (λ p₇. stage 8 (short? st) (λ p₈. (0, refl)))))
+      (λ f.
+      let hs = heads-there n t (standing-passed (hierarchyRefusals s t heads steps) f .0 .sound) in (
+        (Count (length (l .0)), (over (hs .0) heads, over (bytesOf (l .0)) steps)),
+        refl,
+        (hs .0, l .0, hs .1, l .1, refl),
+      ))
+    where
+      n : ℕ
+      n = s .classes
 
-unfoldable pub hierarchy-there :
-    (s : Session) (t heads steps : List ℕ)
-    → (r : Wrote) × (heads′ : List ℕ) × (steps′ : List ℕ) × HierarchyWritten s t heads steps r heads′ steps′
-hierarchy-there s t heads steps = go first
-  where
-    n : ℕ
-    n = s .classes
+      l : (l : List Pair) × StepsOf n t l
+      l = steps-there n t
 
-    l : (l : List Pair) × StepsOf n t l
-    l = steps-there n t
+      short? : Stands s t → Dec both-short
+      short? st =
+          let hs = heads-there n t (st .sound) in
+          either (too-short? (HeadsOf n t) (hs .0) (hs .1) heads-unique heads)
+          (too-short? (StepBytes n t) (bytesOf (l .0)) (l .0, l .1, refl) step-bytes-unique steps)
 
-    short? : Stands s t → Dec (TooShort (HeadsOf n t) heads ⊎ TooShort (StepBytes n t) steps)
-    short? st =
-        let hs = heads-there n t (st .sound) in
-        either (too-short? (HeadsOf n t) (hs .0) (hs .1) heads-unique heads)
-        (too-short? (StepBytes n t) (bytesOf (l .0)) (l .0, l .1, refl) step-bytes-unique steps)
+  -- 7 is given exactly where pairs are counted as open and none of 1 to 4 is due
+  pub hierarchy-seven :
+      {o : Counted × (List ℕ × List ℕ)} → Stands s t → Owed (hierarchy s t heads steps) o
+      → (countNumber (o .0) ≡ 7) ↔ (opens (s .classes) t ≢ 0)
+  hierarchy-seven {o} st h = go (stands-first (hierarchyRefusals s t heads steps) st (h .number))
+    where
+      go :
+          First (hierarchyRefusals s t heads steps) (countNumber (o .0))
+          → (countNumber (o .0) ≡ 7) ↔ (opens (s .classes) t ≢ 0)
+      go (inl (some, e)) = (λ _ z. omega arith, λ _. e)
+      go (inr (none, inl (_, e))) = (λ z. absurd (omega arith), λ z. absurd (omega arith))
+      go (inr (none, inr (_, e))) = (λ z. absurd (omega arith), λ z. absurd (omega arith))
 
-    first : (k : ℕ) × First (standing s t (hierarchyRefusals s t heads steps)) k
-    first =
-        standing-there (hierarchyRefusals s t heads steps) s t (λ st.
-        stage 7 (decLt 0 (opens n t)) (λ p₇. stage 8 (short? st) (λ p₈. (0, refl))))
-
-    pick :
-        (k : ℕ) → First (standing s t (hierarchyRefusals s t heads steps)) k → Dec (k ≡ 0)
-        → (r : Wrote) × (heads′ : List ℕ) × (steps′ : List ℕ) × HierarchyWritten s t heads steps r heads′ steps′
-    pick k f (yes e) =
-        let g = rw e at f in
-        let hs = heads-there n t (standing-passed (hierarchyRefusals s t heads steps) g .0 .sound) in (
-          Count (length (l .0)),
-          over (hs .0) heads,
-          over (bytesOf (l .0)) steps,
-          record { number = g; place = refl; buffers = ((hs .0, hs .1, refl), (l .0, l .1, refl, refl)) },
-        )
-    pick k f (no e) = (Refused k 0, heads, steps, record { number = f; place = refl; buffers = (e, refl, refl) })
-
-    go :
-        (k : ℕ) × First (standing s t (hierarchyRefusals s t heads steps)) k
-        → (r : Wrote) × (heads′ : List ℕ) × (steps′ : List ℕ) × HierarchyWritten s t heads steps r heads′ steps′
-    go (k, f) = pick k f (ℕ-discrete k 0)
+  -- the lengths of both buffers stay
+  pub hierarchy-lengths :
+      {o : Counted × (List ℕ × List ℕ)} → Owed (hierarchy s t heads steps) o
+      → (length (o .1 .0) ≡ length heads) × (length (o .1 .1) ≡ length steps)
+  hierarchy-lengths {o} h = go (ℕ-discrete (countNumber (o .0)) 0)
+    where
+      go : Dec (countNumber (o .0) ≡ 0) → (length (o .1 .0) ≡ length heads) × (length (o .1 .1) ≡ length steps)
+      go (yes e) =
+          let d = h .done e in
+          let q = hierarchy-fits (standing-passed (hierarchyRefusals s t heads steps) (rw e at (h .number)) .1) in (
+            ap (λ (x : Counted × (List ℕ × List ℕ)). length (x .1 .0)) (d .4)
+                ∙ over-length (HeadsOf (s .classes) t) (d .0) heads (d .2) (λ z. q (inl z)),
+            ap (λ (x : Counted × (List ℕ × List ℕ)). length (x .1 .1)) (d .4)
+                ∙ over-length (StepBytes (s .classes) t) (bytesOf (d .1)) steps (d .1, d .3, refl) (λ z. q (inr z)),
+          )
+      go (no e) = rw (h .refused e) (refl, refl)

@@ -14,13 +14,14 @@ use Rattle.order.specs.Refusals.{First}
 use Rattle.order.proofs.Decide.{stable, both, either, negated, as-well, some-below, least}
 use Rattle.order.proofs.Refusals.{stage}
 use Rattle.promise.specs.declared.Session.{Session}
-use Rattle.promise.specs.declared.Wrote.{Wrote}
+use Rattle.promise.specs.declared.Counted.{Counted}
 use Rattle.promise.specs.Refusals.{standing}
-use Rattle.promise.specs.Buffers.{numberOf, TooShort}
-use Rattle.promise.specs.Hierarchy.{Under, HeadOf, Head, Third, Direct}
-use Rattle.promise.specs.Ladder.{NextRung, Ladder, LadderOf, Above, Number, ladderRefusals, LadderWritten}
+use Rattle.promise.specs.Calls.{Owed}
+use Rattle.promise.specs.Counts.{countNumber, TooShort}
+use Rattle.promise.specs.Hierarchy.{Under, HeadOf, Head, Third, Direct, NextRung, Ladder, LadderOf, Above, Number, ladderRefusals, ladder}
 use Rattle.promise.proofs.Standing.{Stands, standing-own, standing-passed, standing-there, below-of}
-use Rattle.promise.proofs.Buffers.{too-short?, writes-unique, writes-there, writes-length}
+use Rattle.promise.proofs.Calls.{Fixed, owed-unique}
+use Rattle.promise.proofs.Counts.{too-short?, writes-fixed, writes-there, writes-length}
 use Rattle.promise.proofs.Hierarchy.{head-unique, head-head, head-there, heads-equal, head?, under?, direct?, third?}
 
 -- how many numbers below k have a property: there is such a number, and it is less for a narrower property
@@ -285,7 +286,7 @@ module _ (s : Session) (t : List ℕ) (a b : ℕ) (out : List ℕ) where
       let h = below-of (s .classes) a b p in
       ladder-there (s .classes) t (st .sound) a b (h .0) (h .1) (stable (ℕ-discrete (mark (s .classes) t a b) 1) u)
 
-  unfoldable pub ladder-written-there : (r : Wrote) × (out′ : List ℕ) × LadderWritten s t a b out r out′
+  unfoldable pub ladder-written-there : (o : Counted × List ℕ) × Owed (ladder s t a b out) o
   ladder-written-there =
       writes-there (standing s t (ladderRefusals s t a b out)) (LadderOf (s .classes) t a b) out
       (standing-there (ladderRefusals s t a b out) s t (λ st.
@@ -306,27 +307,29 @@ module _ (s : Session) (t : List ℕ) (a b : ℕ) (out : List ℕ) where
           too-short? (LadderOf (s .classes) t a b) (l .0) (l .1)
           (ladder-unique (s .classes) t (st .sound) (below-of (s .classes) a b p .1)) out
 
-  pub ladder-written-unique :
-      {r r₂ : Wrote} {out′ out₂ : List ℕ} → LadderWritten s t a b out r out′ → LadderWritten s t a b out r₂ out₂
-      → (r ≡ r₂) × (out′ ≡ out₂)
-  ladder-written-unique =
-      writes-unique (standing s t (ladderRefusals s t a b out)) (LadderOf (s .classes) t a b) out (λ f.
+  pub ladder-fixed : Fixed (ladder s t a b out)
+  ladder-fixed =
+      writes-fixed (standing s t (ladderRefusals s t a b out)) (LadderOf (s .classes) t a b) out (λ f.
       let p = standing-passed (ladderRefusals s t a b out) f in
       ladder-unique (s .classes) t (p .0 .sound) (below-of (s .classes) a b (ladder-passed (p .1) .0) .1))
 
+  pub ladder-written-unique :
+      {o o₂ : Counted × List ℕ} → Owed (ladder s t a b out) o → Owed (ladder s t a b out) o₂ → o ≡ o₂
+  ladder-written-unique = owed-unique (ladder s t a b out) ladder-fixed
+
   -- the length of the buffer stays
   pub ladder-length :
-      {r : Wrote} {out′ : List ℕ} → LadderWritten s t a b out r out′ → length out′ ≡ length out
+      {o : Counted × List ℕ} → Owed (ladder s t a b out) o → length (o .1) ≡ length out
   ladder-length =
       writes-length (standing s t (ladderRefusals s t a b out)) (LadderOf (s .classes) t a b) out (λ f.
       ladder-passed (standing-passed (ladderRefusals s t a b out) f .1) .2)
 
   -- with room for 128 rungs 8 never comes up
-  pub ladder-room : {r : Wrote} {out′ : List ℕ} → 128 ≤ length out → LadderWritten s t a b out r out′ → numberOf r ≢ 8
-  ladder-room {r} room h e =
+  pub ladder-room : {o : Counted × List ℕ} → 128 ≤ length out → Owed (ladder s t a b out) o → countNumber (o .0) ≢ 8
+  ladder-room {o} room h e =
       let p = standing-own (ladderRefusals s t a b out) (inr (omega arith)) (h .number) in go (p .0) (p .1)
     where
-      go : Stands s t → First (ladderRefusals s t a b out) (numberOf r) → ⊥
+      go : Stands s t → First (ladderRefusals s t a b out) (countNumber (o .0)) → ⊥
       go st (inl (_, k)) = omega arith
       go st (inr (_, inl (_, k))) = omega arith
       go st (inr (_, inr (_, inl (_, k)))) = omega arith

@@ -1,6 +1,6 @@
 pub mod Flags
 pub mod Standing
-pub mod Replies
+pub mod Calls
 pub mod Fresh
 pub mod Taking
 pub mod Tell
@@ -9,7 +9,8 @@ pub mod Runs
 pub mod AnyOrder
 pub mod OneByOne
 pub mod Next
-pub mod Buffers
+pub mod Counts
+pub mod Crossing
 pub mod Hierarchy
 pub mod Ladder
 pub mod Book

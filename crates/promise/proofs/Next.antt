@@ -7,11 +7,10 @@ use mathlib.Core.List.{List, [], _∷_, List·Memᴰ, List·Memᴰ·head, List·
 use Prim.Native.Nat.{ℕ, _+_, _≤_, _<_}
 use native.Mathlib.Decide.{ℕ-discrete, decLt}
 use native.Mathlib.Omega.{arith}
-use Rattle.order.specs.Facts.{Fact}
+use Rattle.order.specs.Facts.{Fact, factOn}
 use Rattle.order.specs.Tables.{mark, opens}
 use Rattle.order.specs.Pairs.{Pair, Before, Lists}
 use Rattle.order.specs.Refusals.{First}
-use Rattle.order.proofs.Refusals.{first-unique}
 use Rattle.order.proofs.Counts.{opens-none}
 use Rattle.order.proofs.Pairs.{before-not, pairsOf, pairs-listed}
 use Rattle.order.proofs.Sound.{is}
@@ -21,9 +20,11 @@ use Rattle.promise.specs.declared.Reply.{Reply}
 use Rattle.promise.specs.declared.Question.{Question}
 use Rattle.promise.specs.declared.Question.the-variants.{Ask, Done, Refused}
 use Rattle.promise.specs.Refusals.{standing}
-use Rattle.promise.specs.Tell.{Kind, adds, tellRefusals, Answered}
-use Rattle.promise.specs.Next.{numberOf, placeOf, FirstOpen, NoneOpen, Says, Asked, Rounds}
+use Rattle.promise.specs.Calls.{Owed}
+use Rattle.promise.specs.Tell.{Kind, adds, tellRefusals, tell}
+use Rattle.promise.specs.Next.{questionNumber, FirstOpen, NoneOpen, Names, next, Rounds}
 use Rattle.promise.proofs.Standing.{Stands, standing-passed, stands-first, standing-there}
+use Rattle.promise.proofs.Calls.{Fixed, owed-unique, owed-there}
 use Rattle.promise.proofs.Taking.{leaves-keeps}
 use Rattle.promise.proofs.Tell.{tell-opens, tell-leaves}
 
@@ -48,23 +49,20 @@ first-open-unique {n} {t} {a} {b} {c} {d} p q = go (in-order a b c d)
     go (inr (inl e)) = absurd (p .first c d (q .lower-below) (q .upper-below) e (q .is-open))
     go (inr (inr e)) = e
 
-pub next-unique : {s : Session} {t : List ℕ} {q q₂ : Question} → Asked s t q → Asked s t q₂ → q ≡ q₂
-next-unique {s} {t} {q} {q₂} h h₂ =
-    go q q₂ (first-unique (standing s t []) (numberOf q) (numberOf q₂) (h .number) (h₂ .number))
-    (h .place ∙ sym (h₂ .place)) (h .says) (h₂ .says)
+pub next-fixed : (s : Session) (t : List ℕ) → Fixed (next s t)
+next-fixed s t f q q₂ = go q q₂
   where
-    go :
-        (q q₂ : Question) → numberOf q ≡ numberOf q₂ → placeOf q ≡ placeOf q₂ → Says (s .classes) t q
-        → Says (s .classes) t q₂ → q ≡ q₂
-    go (Ask a b) (Ask c d) e z x y = let r = first-open-unique x y in ap₂ Ask (r .0) (r .1)
-    go (Ask a b) Done e z x y = absurd (y .at a b (x .lower-below) (x .upper-below) (x .is-open))
-    go (Ask a b) (Refused k p) e z x y = absurd (y (sym e))
-    go Done (Ask a b) e z x y = absurd (x .at a b (y .lower-below) (y .upper-below) (y .is-open))
-    go Done Done e z x y = refl
-    go Done (Refused k p) e z x y = absurd (y (sym e))
-    go (Refused k p) (Ask a b) e z x y = absurd (x e)
-    go (Refused k p) Done e z x y = absurd (x e)
-    go (Refused k p) (Refused k₂ p₂) e z x y = ap₂ Refused e z
+    go : (q q₂ : Question) → Names (s .classes) t q → Names (s .classes) t q₂ → q ≡ q₂
+    go (Ask a b) (Ask c d) x y = let r = first-open-unique x y in ap₂ Ask (r .0) (r .1)
+    go (Ask a b) Done x y = absurd (y .at a b (x .lower-below) (x .upper-below) (x .is-open))
+    go (Ask a b) (Refused k p) x y = absurd y
+    go Done (Ask a b) x y = absurd (x .at a b (y .lower-below) (y .upper-below) (y .is-open))
+    go Done Done x y = refl
+    go Done (Refused k p) x y = absurd y
+    go (Refused k p) q x y = absurd x
+
+pub next-unique : (s : Session) (t : List ℕ) {q q₂ : Question} → Owed (next s t) q → Owed (next s t) q₂ → q ≡ q₂
+next-unique s t = owed-unique (next s t) (next-fixed s t)
 
 -- the first pair of a list of the open ones is the first open pair
 unfoldable pub first-of :
@@ -88,42 +86,37 @@ first-of n t (p ∷ l) h =
     after c d b (inl e) = let z : Before p p = subst (λ (x : Pair). Before x p) e b in before-not p p z z
     after c d b (inr i) = before-not (c, d) p b (h .rising .0 (c, d) i)
 
-unfoldable pub next-there : (s : Session) (t : List ℕ) → (q : Question) × Asked s t q
+unfoldable pub next-there : (s : Session) (t : List ℕ) → (q : Question) × Owed (next s t) q
 next-there s t =
-    go (standing-there [] s t (λ st. (0, refl)))
-    (first-of (s .classes) t (pairsOf Open (is (s .classes) t 0) (s .classes)) (pairs-listed Open (is (s .classes) t 0) (s .classes)))
+    owed-there (next s t) (λ k. refl) (standing-there [] s t (λ st. (0, refl))) (λ f.
+    pick
+    (first-of (s .classes) t (pairsOf Open (is (s .classes) t 0) (s .classes)) (pairs-listed Open (is (s .classes) t 0) (s .classes))))
   where
     Open : ℕ → ℕ → Type 0
     Open a b = mark (s .classes) t a b ≡ 0
 
     pick :
-        (k : ℕ) → First (standing s t []) k → Dec (k ≡ 0)
-        → NoneOpen (s .classes) t ⊎ ((a : ℕ) × (b : ℕ) × FirstOpen (s .classes) t a b) → (q : Question) × Asked s t q
-    pick k f (no e) o = (Refused k 0, record { number = f; place = refl; says = e })
-    pick k f (yes e) (inl o) = (Done, record { number = rw e at f; place = refl; says = o })
-    pick k f (yes e) (inr (a, b, o)) = (Ask a b, record { number = rw e at f; place = refl; says = o })
-
-    go :
-        (k : ℕ) × First (standing s t []) k
-        → NoneOpen (s .classes) t ⊎ ((a : ℕ) × (b : ℕ) × FirstOpen (s .classes) t a b) → (q : Question) × Asked s t q
-    go (k, f) o = pick k f (ℕ-discrete k 0) o
+        NoneOpen (s .classes) t ⊎ ((a : ℕ) × (b : ℕ) × FirstOpen (s .classes) t a b)
+        → (q : Question) × (questionNumber q ≡ 0) × Names (s .classes) t q
+    pick (inl o) = (Done, refl, o)
+    pick (inr (a, b, o)) = (Ask a b, refl, o)
 
 -- Asking and answering.
 
 -- the answer to the pair asked is accepted
 asked-accepted :
-    {a b : ℕ} {v : Bool} {s : Session} {t : List ℕ} {r : Reply} {t′ : List ℕ} → Asked s t (Ask a b)
-    → Answered s t (record { lower = a; upper = b; holds = v }) r t′ → r .number ≡ 0
+    {a b : ℕ} {v : Bool} {s : Session} {t : List ℕ} {r : Reply} {t′ : List ℕ} → Owed (next s t) (Ask a b)
+    → Owed (tell Kind.answered s t (factOn a b v)) (r, t′) → r .number ≡ 0
 asked-accepted {a} {b} {v} {s} {t} {r} {t′} q h =
-    go (stands-first (tellRefusals s t f) (standing-passed [] (q .number) .0) (h .replies .number))
+    go (stands-first (tellRefusals s t f) (standing-passed [] (q .number) .0) (h .number))
   where
     f : Fact
-    f = record { lower = a; upper = b; holds = v }
+    f = factOn a b v
 
     go : First (tellRefusals s t f) (r .number) → r .number ≡ 0
-    go (inl (inl z, e)) = absurd (omega (arith, q .says .lower-below))
-    go (inl (inr z, e)) = absurd (omega (arith, q .says .upper-below))
-    go (inr (_, inl (z, e))) = absurd (mark-against-settled v (sym z ∙ q .says .is-open))
+    go (inl (inl z, e)) = absurd (omega (arith, q .done refl .lower-below))
+    go (inl (inr z, e)) = absurd (omega (arith, q .done refl .upper-below))
+    go (inr (_, inl (z, e))) = absurd (mark-against-settled v (sym z ∙ q .done refl .is-open))
     go (inr (_, inr (_, e))) = e
 
 -- each round settles an open pair at least, and leaves what can be asked of again
@@ -133,9 +126,9 @@ rounds-bounded :
 rounds-bounded st Rounds.none = (st, refl, omega arith)
 rounds-bounded {k} {s} {s′} {t} {t′} st (Rounds.round {k = j} {a = a} {b = b} {v = v} {t₁ = t₁} {r = r} q h later) =
     let e = asked-accepted q h in
-    let i = rounds-bounded (leaves-keeps (tell-leaves h e) st) later in
-    let o = tell-opens h 0 e in
-    let one : adds Kind.answered 0 (mark (s .classes) t a b) ≡ 1 = ap (adds Kind.answered 0) (q .says .is-open) in
+    let i = rounds-bounded (leaves-keeps (tell-leaves Kind.answered h e) st) later in
+    let o = tell-opens Kind.answered h 0 e in
+    let one : adds Kind.answered 0 (mark (s .classes) t a b) ≡ 1 = ap (adds Kind.answered 0) (q .done refl .is-open) in
     let le : j + opens (s .classes) t′ ≤ opens (s .classes) t₁ =
     subst (λ (n : ℕ). j + opens n t′ ≤ opens n t₁) (o .0) (i .2)
     in
@@ -146,43 +139,43 @@ pub rounds-tests :
     {k : ℕ} {s s′ : Session} {t t′ : List ℕ} → Rounds k s t s′ t′ → s′ .tests ≡ s .tests + k
 rounds-tests Rounds.none = omega arith
 rounds-tests {s = s} {t = t} (Rounds.round {a = a} {b = b} q h later) =
-    let one : adds Kind.answered 0 (mark (s .classes) t a b) ≡ 1 = ap (adds Kind.answered 0) (q .says .is-open) in
-    omega (arith, rounds-tests later, tell-opens h 0 (asked-accepted q h) .1)
+    let one : adds Kind.answered 0 (mark (s .classes) t a b) ≡ 1 = ap (adds Kind.answered 0) (q .done refl .is-open) in
+    omega (arith, rounds-tests later, tell-opens Kind.answered h 0 (asked-accepted q h) .1)
 
 -- "So asking and answering the pair asked ends after at most as many answers as there were open pairs": after k rounds next says done,
 -- or k is still below the number of pairs open at the start
 pub rounds-end :
     {k : ℕ} {s s′ : Session} {t t′ : List ℕ} {q : Question} → First (standing s t []) 0 → Rounds k s t s′ t′
-    → Asked s′ t′ q → (q ≡ Done) ⊎ (k < opens (s .classes) t)
-rounds-end {k} {s} {s′} {t} {t′} {q} st rounds h = go q (h .number) (h .says)
+    → Owed (next s′ t′) q → (q ≡ Done) ⊎ (k < opens (s .classes) t)
+rounds-end {k} {s} {s′} {t} {t′} {q} st rounds h = go q (h .number) (h .done)
   where
     i : Stands s′ t′ × (s′ .classes ≡ s .classes) × (k + opens (s .classes) t′ ≤ opens (s .classes) t)
     i = rounds-bounded (standing-passed [] st .0) rounds
 
     go :
-        (q : Question) → First (standing s′ t′ []) (numberOf q) → Says (s′ .classes) t′ q
+        (q : Question) → First (standing s′ t′ []) (questionNumber q) → (questionNumber q ≡ 0 → Names (s′ .classes) t′ q)
         → (q ≡ Done) ⊎ (k < opens (s .classes) t)
-    go (Ask a b) f y = inr (some (ℕ-discrete (opens (s .classes) t′) 0))
+    go (Ask a b) f y = inr (some (y refl) (ℕ-discrete (opens (s .classes) t′) 0))
       where
-        some : Dec (opens (s .classes) t′ ≡ 0) → k < opens (s .classes) t
-        some (yes e) =
+        some : FirstOpen (s′ .classes) t′ a b → Dec (opens (s .classes) t′ ≡ 0) → k < opens (s .classes) t
+        some o (yes e) =
             absurd
-            (opens-none (s′ .classes) t′ .0 (rw (i .1) e) a b (y .lower-below) (y .upper-below) (y .is-open))
-        some (no e) = omega (arith, i .2)
+            (opens-none (s′ .classes) t′ .0 (rw (i .1) e) a b (o .lower-below) (o .upper-below) (o .is-open))
+        some o (no e) = omega (arith, i .2)
     go Done f y = inl refl
     go (Refused number place) f y = absurd (y (stands-first [] (i .0) f))
 
 -- next says done exactly when no pair is counted as open
-pub done-exactly : {s : Session} {t : List ℕ} {q : Question} → Asked s t q → numberOf q ≡ 0 → (q ≡ Done) ↔ (opens (s .classes) t ≡ 0)
-done-exactly {s} {t} {q} h e = go q e (h .says)
+pub done-exactly : (s : Session) (t : List ℕ) {q : Question} → Owed (next s t) q → questionNumber q ≡ 0 → (q ≡ Done) ↔ (opens (s .classes) t ≡ 0)
+done-exactly s t {q} h e = go q (h .done e)
   where
-    go : (q : Question) → numberOf q ≡ 0 → Says (s .classes) t q → (q ≡ Done) ↔ (opens (s .classes) t ≡ 0)
-    go (Ask a b) z y = (
+    go : (q : Question) → Names (s .classes) t q → (q ≡ Done) ↔ (opens (s .classes) t ≡ 0)
+    go (Ask a b) y = (
       λ p. absurd (other p),
       λ o. absurd (opens-none (s .classes) t .0 o a b (y .lower-below) (y .upper-below) (y .is-open)),
     )
       where
         other : Ask a b ≡ Done → ⊥
         other p = let z : _≡_ {A = ℕ} 0 1 = cc in omega arith
-    go Done z y = (λ _. opens-none (s .classes) t .1 (y .at), λ _. refl)
-    go (Refused number place) z y = absurd (y z)
+    go Done y = (λ _. opens-none (s .classes) t .1 (y .at), λ _. refl)
+    go (Refused number place) y = absurd y

@@ -9,7 +9,7 @@ use native.Mathlib.Decide.{ℕ-discrete}
 use native.Mathlib.Nat.{add-zero}
 use native.Mathlib.Omega.{arith}
 use lib.ListN.{length}
-use Rattle.order.specs.Facts.{Fact, notUnder, Listed, Below}
+use Rattle.order.specs.Facts.{Fact, factOn, notUnder, Listed, Below}
 use Rattle.order.specs.Tables.{Marks}
 use Rattle.order.specs.Pairs.{Pair}
 use Rattle.order.specs.Refusals.{First}
@@ -19,13 +19,14 @@ use Rattle.order.proofs.Pairs.{pairsOf, pairs-listed}
 use Rattle.promise.specs.declared.Session.{Session}
 use Rattle.promise.specs.declared.Reply.{Reply}
 use Rattle.promise.specs.Refusals.{standing}
-use Rattle.promise.specs.Flags.{Flagged}
-use Rattle.promise.specs.Tell.{Kind, Told}
-use Rattle.promise.specs.Clips.{ClipNo, MemberBeyond, Clipped}
-use Rattle.promise.specs.Runs.{StandsFor, Call, Makes, Said, AllFit, Made, Run, callsOf, AllAccepted}
+use Rattle.promise.specs.Sessions.{refusal}
+use Rattle.promise.specs.Calls.{Owed}
+use Rattle.promise.specs.Tell.{Kind, tell}
+use Rattle.promise.specs.Clips.{Flagged, ClipNo, MemberBeyond, clip}
+use Rattle.promise.specs.Runs.{StandsFor, Intake, taking, Said, AllFit, Made, Run, callsOf, AllAccepted}
 use Rattle.promise.proofs.Flags.{flagged?}
 use Rattle.promise.proofs.Standing.{standing-passed}
-use Rattle.promise.proofs.Replies.{reply, reply-same}
+use Rattle.promise.proofs.Calls.{changes-kept, changes-session}
 use Rattle.promise.proofs.Clips.{clip-refused}
 use Rattle.promise.proofs.Runs.{run-there, firstOr, rest}
 use Rattle.promise.proofs.AnyOrder.{runs-same}
@@ -56,7 +57,7 @@ noes-mem (p ∷ l) f =
         → List·Memᴰ f (noesOf (p ∷ l))
     back later (inl e) z =
         List·Memᴰ·head
-        (ap (λ (b : Bool). record { lower = f .lower; upper = f .upper; holds = b }) z
+        (ap (λ (b : Bool). factOn (f .lower) (f .upper) b) z
         ∙ ap (λ (q : Pair). notUnder (q .0) (q .1)) e)
     back later (inr j) z = List·Memᴰ·tail (later .1 (j, z))
 
@@ -92,9 +93,9 @@ clip-listed n played = (noesOf pairs, λ f. (λ h. there f h, λ i. back f (noes
 
 -- The facts of a list, told one after the other.
 
-abbrev pub tellsOf : List Fact → List Call
+abbrev pub tellsOf : List Fact → List Intake
 tellsOf [] = []
-tellsOf (f ∷ l) = Call.take Kind.told f ∷ tellsOf l
+tellsOf (f ∷ l) = Intake.fact Kind.told f ∷ tellsOf l
 
 tells-said : (n : ℕ) (l : List Fact) (f : Fact) → Said n (tellsOf l) f ↔ Listed l f
 tells-said n [] f = (λ i. absurd i, λ i. absurd (List·Memᴰ·not-nil i))
@@ -117,16 +118,16 @@ tells-fit n [] all = tt
 tells-fit n (f ∷ l) all = (all f (List·Memᴰ·head refl), tells-fit n l (λ g i. all g (List·Memᴰ·tail i)))
 
 -- tells leave the session as it is
-told-same : {s : Session} {t : List ℕ} {f : Fact} {r : Reply} {t′ : List ℕ} → Told s t f r t′ → r .session ≡ s
+told-same :
+    {s : Session} {t : List ℕ} {f : Fact} {r : Reply} {t′ : List ℕ} → Owed (tell Kind.told s t f) (r, t′) → r .session ≡ s
 told-same {s = s} {r = r} h = go (ℕ-discrete (r .number) 0)
   where
     go : Dec (r .number ≡ 0) → r .session ≡ s
-    go (yes e) =
-        h .replies .session e ∙ ap (λ (k : ℕ). record { classes = s .classes; tests = k }) (add-zero (s .tests))
-    go (no e) = h .replies .refused e .0
+    go (yes e) = changes-session h e ∙ rw (add-zero (s .tests)) refl
+    go (no e) = changes-kept h e .0
 
-same-first : {c d : Call} {calls later : List Call} → c ∷ calls ≡ d ∷ later → c ≡ d
-same-first {c} e = ap (λ (l : List Call). firstOr c l) e
+same-first : {c d : Intake} {calls later : List Intake} → c ∷ calls ≡ d ∷ later → c ≡ d
+same-first {c} e = ap (λ (l : List Intake). firstOr c l) e
 
 tells-same :
     (l : List Fact) {s s′ : Session} {t t′ : List ℕ} {made : List Made} → Run s t made s′ t′ → callsOf made ≡ tellsOf l
@@ -134,21 +135,18 @@ tells-same :
 tells-same l Run.stop e = refl
 tells-same [] (Run.call h number run) e = absurd (omega (arith, ap length e))
 tells-same (f ∷ l) {s} {s′} {t} (Run.call {m = m} {t₁ = t₁} {r = r} h number run) e =
-    tells-same l run (ap rest e) ∙ told (subst (λ (c : Call). Makes c s t r t₁) (same-first e) h)
-  where
-    told : Makes (Call.take Kind.told f) s t r t₁ → r .session ≡ s
-    told (Makes.took took) = told-same took
+    tells-same l run (ap rest e) ∙ told-same (subst (λ (c : Intake). Owed (taking c s t) (r, t₁)) (same-first e) h)
 
 -- "with the same outcome as telling all those noes one by one, in any order, or nothing changed if one of them contradicts": for every list
 -- that has the noes of the clip and no other fact, and every run that tells them. The clip is accepted exactly where each of them is, and
 -- then leaves what they leave; otherwise it is refused with 6, and nothing changed.
 pub clip-told :
     {s : Session} {t : List ℕ} {played : List Bool} {r : Reply} {t′ : List ℕ} {made : List Made} {s″ : Session} {t″ : List ℕ}
-    → Clipped s t played r t′ → First (standing s t []) 0 → ¬ MemberBeyond (s .classes) played
+    → Owed (clip s t played) (r, t′) → First (standing s t []) 0 → ¬ MemberBeyond (s .classes) played
     → (l : List Fact) → ((f : Fact) → ClipNo (s .classes) played f ↔ Listed l f) → Run s t made s″ t″
     → callsOf made ≡ tellsOf l
     → ((r .number ≡ 0) ↔ AllAccepted made) × (AllAccepted made → (s″ ≡ r .session) × (t″ ≡ t′))
-    × ((¬ AllAccepted made) → (r ≡ reply 6 0 s) × (t′ ≡ t))
+    × ((¬ AllAccepted made) → _≡_ {A = Reply × List ℕ} (r, t′) (refusal 6 s, t))
 clip-told {s} {t} {played} {r} {t′} {made} {s″} {t″} h stands b l listing run calls =
     ((λ e. whole .0 .0 (e, tt), λ all. accepted all), left, refused)
   where
@@ -159,8 +157,11 @@ clip-told {s} {t} {played} {r} {t′} {made} {s″} {t″} h stands b l listing 
     before =
         record { within = marks-within; table = sound-table (standing-passed [] stands .0 .sound); stands = stands }
 
+    clipped : Made
+    clipped = record { call = Intake.clipped played; number = r .number }
+
     alone : List Made
-    alone = record { call = Call.clip played; number = r .number } ∷ []
+    alone = clipped ∷ []
 
     fit : AllFit n (callsOf made)
     fit = rw calls (tells-fit n l (λ f i. listing f .1 i .below))
@@ -173,7 +174,7 @@ clip-told {s} {t} {played} {r} {t′} {made} {s″} {t″} h stands b l listing 
         there (inr i) = absurd i
 
     whole : (AllAccepted alone ↔ AllAccepted made) × (AllAccepted alone → t′ ≡ t″)
-    whole = runs-same (Marks n t) refl before (b, tt) fit (Run.call (Makes.clipped h) refl Run.stop) run same
+    whole = runs-same (Marks n t) refl before (b, tt) fit (Run.call {m = clipped} h refl Run.stop) run same
 
     accepted : AllAccepted made → r .number ≡ 0
     accepted all = whole .0 .1 all .0
@@ -181,13 +182,12 @@ clip-told {s} {t} {played} {r} {t′} {made} {s″} {t″} h stands b l listing 
     left : AllAccepted made → (s″ ≡ r .session) × (t″ ≡ t′)
     left all =
         let e = accepted all in
-        (tells-same l run calls ∙ sym (h .replies .session e), sym (whole .1 (e, tt)))
+        (tells-same l run calls ∙ sym (changes-session h e), sym (whole .1 (e, tt)))
 
-    refused : (¬ AllAccepted made) → (r ≡ reply 6 0 s) × (t′ ≡ t)
+    refused : (¬ AllAccepted made) → _≡_ {A = Reply × List ℕ} (r, t′) (refusal 6 s, t)
     refused no-whole =
         let ne : r .number ≢ 0 = λ e. no-whole (whole .0 .0 (e, tt)) in
-        let q = h .replies .refused ne in
-        (reply-same (clip-refused before b h .1 ne) (h .replies .place) (q .0), q .1)
+        h .refused ne ∙ rw (clip-refused before b h .1 ne) refl
 
 -- and there are such a list and such a run
 pub clip-tells-there :

@@ -16,8 +16,10 @@ use Rattle.order.proofs.Bytes.{rest-refl, rest-trans}
 use Rattle.order.proofs.Exactness.{exact}
 use Rattle.promise.specs.declared.Session.{Session}
 use Rattle.promise.specs.declared.Reply.{Reply}
-use Rattle.promise.specs.Runs.{StandsFor, Call, Makes, SaidBy, Fits, addedBy, Made, Run, FromFresh, callsOf, UnlessRefused, Accepted, testsIn}
+use Rattle.promise.specs.Calls.{Owed}
+use Rattle.promise.specs.Runs.{StandsFor, Intake, taking, SaidBy, Fits, addedBy, Made, Run, FromFresh, callsOf, UnlessRefused, Accepted, testsIn}
 use Rattle.promise.proofs.Standing.{standing-passed}
+use Rattle.promise.proofs.Calls.{changes-kept, changes-session}
 use Rattle.promise.proofs.Fresh.{fresh-stands, fresh-there, fresh-accepted}
 use Rattle.promise.proofs.Taking.{Leaves, leaves-stands}
 use Rattle.promise.proofs.Tell.{tell-unique, tell-there, tell-opens, tell-leaves, tell-refused}
@@ -34,53 +36,53 @@ stands-equal i j st =
 
 -- One call: its outcome is there and the only one, and what it leaves.
 
-pub makes-unique :
-    {c : Call} {s : Session} {t : List ℕ} {r r₂ : Reply} {t′ t₂ : List ℕ} → Makes c s t r t′ → Makes c s t r₂ t₂
-    → (r ≡ r₂) × (t′ ≡ t₂)
-makes-unique (Makes.took h) (Makes.took h₂) = tell-unique h h₂
-makes-unique (Makes.clipped h) (Makes.clipped h₂) = clip-unique h h₂
+pub intake-unique :
+    (c : Intake) (s : Session) (t : List ℕ) {o o₂ : Reply × List ℕ} → Owed (taking c s t) o → Owed (taking c s t) o₂ → o ≡ o₂
+intake-unique (Intake.fact kind f) s t h h₂ = tell-unique kind h h₂
+intake-unique (Intake.clipped played) s t h h₂ = clip-unique h h₂
 
-pub makes-there : (c : Call) (s : Session) (t : List ℕ) → (r : Reply) × (t′ : List ℕ) × Makes c s t r t′
-makes-there (Call.take kind f) s t = let q = tell-there kind s t f in (q .0, q .1, Makes.took (q .2))
-makes-there (Call.clip played) s t = let q = clip-there s t played in (q .0, q .1, Makes.clipped (q .2))
+pub intake-there : (c : Intake) (s : Session) (t : List ℕ) → (o : Reply × List ℕ) × Owed (taking c s t) o
+intake-there (Intake.fact kind f) s t = tell-there kind s t f
+intake-there (Intake.clipped played) s t = clip-there s t played
 
-pub makes-leaves :
-    {c : Call} {s : Session} {t : List ℕ} {r : Reply} {t′ : List ℕ} → Makes c s t r t′ → r .number ≡ 0
+pub intake-leaves :
+    (c : Intake) (s : Session) (t : List ℕ) {r : Reply} {t′ : List ℕ} → Owed (taking c s t) (r, t′) → r .number ≡ 0
     → Leaves (SaidBy (s .classes) c) s t (r .session) t′
-makes-leaves (Makes.took h) e = tell-leaves h e
-makes-leaves (Makes.clipped h) e = clip-leaves h e
+intake-leaves (Intake.fact kind f) s t h e = tell-leaves kind h e
+intake-leaves (Intake.clipped played) s t h e = clip-leaves h e
 
 -- refused, it leaves all as it was; accepted, every byte from n*n on
-makes-refused :
-    {c : Call} {s : Session} {t : List ℕ} {r : Reply} {t′ : List ℕ} → Makes c s t r t′ → r .number ≢ 0
+intake-refused :
+    (c : Intake) (s : Session) (t : List ℕ) {r : Reply} {t′ : List ℕ} → Owed (taking c s t) (r, t′) → r .number ≢ 0
     → (r .session ≡ s) × (t′ ≡ t)
-makes-refused (Makes.took h) = h .replies .refused
-makes-refused (Makes.clipped h) = h .replies .refused
+intake-refused (Intake.fact kind f) s t h = changes-kept h
+intake-refused (Intake.clipped played) s t h = changes-kept h
 
-makes-rest :
-    {c : Call} {s : Session} {t : List ℕ} {r : Reply} {t′ : List ℕ} → Makes c s t r t′ → r .number ≡ 0
+intake-rest :
+    (c : Intake) (s : Session) (t : List ℕ) {r : Reply} {t′ : List ℕ} → Owed (taking c s t) (r, t′) → r .number ≡ 0
     → SameRest (s .classes) t t′
-makes-rest (Makes.took h) = h .replies .rest
-makes-rest (Makes.clipped h) = h .replies .rest
+intake-rest (Intake.fact kind f) s t h e = h .done e .rest
+intake-rest (Intake.clipped played) s t h e = h .done e .rest
 
 -- the class count stays, the tally grows by what the call adds, and that and what stays open is no more than was open
-makes-opens :
-    {c : Call} {s : Session} {t : List ℕ} {r : Reply} {t′ : List ℕ} → Makes c s t r t′ → (k : ℕ) → r .number ≡ k
+intake-opens :
+    (c : Intake) (s : Session) (t : List ℕ) {r : Reply} {t′ : List ℕ} → Owed (taking c s t) (r, t′) → (k : ℕ)
+    → r .number ≡ k
     → (r .session .classes ≡ s .classes) × (r .session .tests ≡ s .tests + addedBy c k s t)
     × (addedBy c k s t + opens (s .classes) t′ ≤ opens (s .classes) t)
-makes-opens (Makes.took h) k e = tell-opens h k e
-makes-opens (Makes.clipped h) k e =
+intake-opens (Intake.fact kind f) s t h k e = tell-opens kind h k e
+intake-opens (Intake.clipped played) s t h k e =
     let o = clip-opens h in
     rw (clip-session h) (refl, omega arith, omega arith)
 
 -- "A fact on two classes below the count is refused as contradictory exactly when no order agrees with it and those accepted before", a
 -- clip "exactly when no order agrees with all of them and the facts accepted before"; and neither is refused for another reason
-pub makes-contradicted :
-    (c : Call) {S : Facts} {s : Session} {t : List ℕ} {r : Reply} {t′ : List ℕ} → StandsFor S s t → Fits (s .classes) c
-    → Makes c s t r t′
+pub intake-contradicted :
+    (c : Intake) (s : Session) (t : List ℕ) {S : Facts} {r : Reply} {t′ : List ℕ} → StandsFor S s t → Fits (s .classes) c
+    → Owed (taking c s t) (r, t′)
     → ((r .number ≢ 0) ↔ Impossible (s .classes) (S and SaidBy (s .classes) c)) × (r .number ≢ 0 → r .number ≡ 6)
-makes-contradicted (Call.take kind f) st b (Makes.took h) = tell-refused st b h
-makes-contradicted (Call.clip played) st b (Makes.clipped h) = clip-refused st b h
+intake-contradicted (Intake.fact kind f) s t st b h = tell-refused kind st b h
+intake-contradicted (Intake.clipped played) s t st b h = clip-refused st b h
 
 -- what a run leaves stands for the facts it started from and those accepted
 pub run-stands :
@@ -95,12 +97,12 @@ run-stands {n} {S} {s} {s′} {t} {t′} c st (Run.call {m = m} {later = later} 
         → ((T : Facts) → r .session .classes ≡ n → StandsFor T (r .session) t₁ → StandsFor (T and Accepted n later) s′ t′)
         → StandsFor (S and (UnlessRefused k (SaidBy n (m .call)) and Accepted n later)) s′ t′
     go zero z next =
-        let l = makes-leaves h z in
+        let l = intake-leaves (m .call) s t h z in
         stands-equal (and-left S (SaidBy n (m .call)) (Accepted n later)) (and-right S (SaidBy n (m .call)) (Accepted n later))
         (next (S and SaidBy n (m .call)) (l .classes ∙ c)
         (subst (λ (k : ℕ). StandsFor (S and SaidBy k (m .call)) (r .session) t₁) c (leaves-stands l st)))
     go (suc k) z next =
-        let q = makes-refused h (λ y. omega arith) in
+        let q = intake-refused (m .call) s t h (λ y. omega arith) in
         stands-equal none-more none-said (next S (rw (q .0) c) (rw (q .0, q .1) st))
       where
         none-more : (S and Accepted n later) ⊆ (S and (UnlessRefused (suc k) (SaidBy n (m .call)) and Accepted n later))
@@ -117,7 +119,7 @@ pub fresh-run-stands :
     → StandsFor (Accepted n made) s′ t′
 fresh-run-stands {n} {made = made} h =
     stands-equal (none-and (Accepted n made) (λ f i. List·Memᴰ·not-nil i)) (λ f m. inr m)
-    (run-stands (ap (λ (s : Session). s .classes) (h .began .replies .session (h .accepted)))
+    (run-stands (ap (λ (s : Session). s .classes) (changes-session (h .began) (h .accepted)))
     (fresh-stands (h .began) (h .accepted)) (h .run))
 
 -- the class count stays; the tally grows by the tests of the history; "From any moment on, answers counted since plus pairs still open
@@ -130,7 +132,7 @@ unfolding testsIn
 run-tests Run.stop = (refl, omega arith, omega arith)
 run-tests {s} {s′} {t} {t′} (Run.call {m = m} {t₁ = t₁} {r = r} h e run) =
     let i = run-tests run in
-    let o = makes-opens h (m .number) e in
+    let o = intake-opens (m .call) s t h (m .number) e in
     let le : testsIn run + opens (s .classes) t′ ≤ opens (s .classes) t₁ =
     subst (λ (n : ℕ). testsIn run + opens n t′ ≤ opens n t₁) (o .0) (i .2)
     in
@@ -143,18 +145,18 @@ run-rest {t = t} Run.stop = rest-refl t
 run-rest {s} {s′} {t} {t′} (Run.call {m = m} {t₁ = t₁} {r = r} h e run) = go (ℕ-discrete (r .number) 0) (run-rest run)
   where
     go : Dec (r .number ≡ 0) → SameRest (r .session .classes) t₁ t′ → SameRest (s .classes) t t′
-    go (yes z) later = rest-trans (makes-rest h z) (rw (makes-opens h 0 z .0) at later)
-    go (no z) later = let q = makes-refused h z in rw (q .0, q .1) at later
+    go (yes z) later = rest-trans (intake-rest (m .call) s t h z) (rw (intake-opens (m .call) s t h 0 z .0) at later)
+    go (no z) later = let q = intake-refused (m .call) s t h z in rw (q .0, q .1) at later
 
 -- A run from fresh: demand 3 for its class count.
 module _ {n : ℕ} {t : List ℕ} {made : List Made} {s′ : Session} {t′ : List ℕ} (h : FromFresh n t made s′ t′) where
   pub fresh-run-classes : s′ .classes ≡ n
-  fresh-run-classes = run-tests (h .run) .0 ∙ ap (λ (s : Session). s .classes) (h .began .replies .session (h .accepted))
+  fresh-run-classes = run-tests (h .run) .0 ∙ ap (λ (s : Session). s .classes) (changes-session (h .began) (h .accepted))
 
   -- "The tally is therefore a number read off the history."
   pub fresh-run-tests : s′ .tests ≡ testsIn (h .run)
   fresh-run-tests =
-      let e : h .reply .session .tests ≡ 0 = ap (λ (s : Session). s .tests) (h .began .replies .session (h .accepted)) in
+      let e : h .reply .session .tests ≡ 0 = ap (λ (s : Session). s .tests) (changes-session (h .began) (h .accepted)) in
       omega (arith, run-tests (h .run) .1)
 
   -- "At most n*n-n tests can be counted."
@@ -165,8 +167,8 @@ module _ {n : ℕ} {t : List ℕ} {made : List Made} {s′ : Session} {t′ : Li
 
   pub fresh-run-rest : SameRest n t t′
   fresh-run-rest =
-      let e : h .reply .session .classes ≡ n = ap (λ (s : Session). s .classes) (h .began .replies .session (h .accepted)) in
-      rest-trans (h .began .replies .rest (h .accepted)) (rw e at (run-rest (h .run)))
+      let e : h .reply .session .classes ≡ n = ap (λ (s : Session). s .classes) (changes-session (h .began) (h .accepted)) in
+      rest-trans (h .began .done (h .accepted) .rest) (rw e at (run-rest (h .run)))
 
   pub fresh-run-table : TableOf n (Accepted n made) t′
   fresh-run-table =
@@ -184,14 +186,14 @@ module _ {n : ℕ} {t : List ℕ} {made : List Made} {s′ : Session} {t′ : Li
   -- "A fact on two classes below the count is refused as contradictory exactly when no order agrees with it and those accepted before."
   -- And a clip "is refused as contradictory exactly when no order agrees with all of them and the facts accepted before".
   pub fresh-run-refused :
-      {c : Call} {r : Reply} {t″ : List ℕ} → Fits n c → Makes c s′ t′ r t″
+      (c : Intake) {r : Reply} {t″ : List ℕ} → Fits n c → Owed (taking c s′ t′) (r, t″)
       → ((r .number ≢ 0) ↔ Impossible n (Accepted n made and SaidBy n c)) × (r .number ≢ 0 → r .number ≡ 6)
-  fresh-run-refused {c} {r} {t″} b makes =
+  fresh-run-refused c {r} {t″} b makes =
       subst
       (λ (k : ℕ).
       ((r .number ≢ 0) ↔ Impossible k (Accepted n made and SaidBy k c)) × (r .number ≢ 0 → r .number ≡ 6))
       fresh-run-classes
-      (makes-contradicted c (fresh-run-stands h) (rw fresh-run-classes b) makes)
+      (intake-contradicted c s′ t′ (fresh-run-stands h) (rw fresh-run-classes b) makes)
 
 -- "Hence, if one list of facts is contained in another and both are accepted whole, nothing settled by the first reads differently
 -- under the second."
@@ -220,55 +222,55 @@ run-cut (m ∷ before) since (Run.call h e run) =
 
 pub run-then :
     {made : List Made} (m : Made) {s s₁ : Session} {t t₁ t₂ : List ℕ} {r : Reply} → Run s t made s₁ t₁
-    → Makes (m .call) s₁ t₁ r t₂ → r .number ≡ m .number
+    → Owed (taking (m .call) s₁ t₁) (r, t₂) → r .number ≡ m .number
     → Run s t (made ++ m ∷ []) (r .session) t₂
 run-then m Run.stop makes e = Run.call makes e Run.stop
 run-then m (Run.call h same run) makes e = Run.call h same (run-then m run makes e)
 
 pub calls-then : (made : List Made) (m : Made) → callsOf (made ++ m ∷ []) ≡ callsOf made ++ m .call ∷ []
 calls-then [] m = refl
-calls-then (first ∷ made) m = ap (λ (l : List Call). first .call ∷ l) (calls-then made m)
+calls-then (first ∷ made) m = ap (λ (l : List Intake). first .call ∷ l) (calls-then made m)
 
 pub run-there :
-    (calls : List Call) (s : Session) (t : List ℕ)
+    (calls : List Intake) (s : Session) (t : List ℕ)
     → (made : List Made) × (s′ : Session) × (t′ : List ℕ) × Run s t made s′ t′ × (callsOf made ≡ calls)
 run-there [] s t = ([], s, t, Run.stop, refl)
 run-there (c ∷ calls) s t =
-    let q = makes-there c s t in
-    let later = run-there calls (q .0 .session) (q .1) in (
-      record { call = c; number = q .0 .number } ∷ later .0,
+    let q = intake-there c s t in
+    let later = run-there calls (q .0 .0 .session) (q .0 .1) in (
+      record { call = c; number = q .0 .0 .number } ∷ later .0,
       later .1,
       later .2,
-      Run.call (q .2) refl (later .3),
-      ap (λ (l : List Call). c ∷ l) (later .4),
+      Run.call (q .1) refl (later .3),
+      ap (λ (l : List Intake). c ∷ l) (later .4),
     )
 
 -- from fresh, any list of calls for any class count from 1 to 128 on any table that is long enough
 pub fresh-run-there :
-    (calls : List Call) (n : ℕ) (t : List ℕ) → 1 ≤ n → n ≤ 128 → n * n ≤ length t
+    (calls : List Intake) (n : ℕ) (t : List ℕ) → 1 ≤ n → n ≤ 128 → n * n ≤ length t
     → (made : List Made) × (s′ : Session) × (t′ : List ℕ) × FromFresh n t made s′ t′ × (callsOf made ≡ calls)
 fresh-run-there calls n t some few room =
     let q = fresh-there n t in
-    let x = run-there calls (q .0 .session) (q .1) in (
+    let x = run-there calls (q .0 .0 .session) (q .0 .1) in (
       x .0,
       x .1,
       x .2,
       record {
-        reply = q .0;
-        table = q .1;
-        began = q .2;
-        accepted = fresh-accepted t some few room (q .2 .replies .number);
+        reply = q .0 .0;
+        table = q .0 .1;
+        began = q .1;
+        accepted = fresh-accepted t some few room (q .1 .number);
         run = x .3;
       },
       x .4,
     )
 
 -- the first call of a list, and those after it
-abbrev pub firstOr : Call → List Call → Call
+abbrev pub firstOr : Intake → List Intake → Intake
 firstOr c [] = c
 firstOr _ (c ∷ calls) = c
 
-abbrev pub rest : List Call → List Call
+abbrev pub rest : List Intake → List Intake
 rest [] = []
 rest (c ∷ calls) = calls
 
@@ -281,10 +283,9 @@ run-unique Run.stop (Run.call h same run) e = absurd (omega (arith, ap length e)
 run-unique (Run.call h same run) Run.stop e = absurd (omega (arith, ap length e))
 run-unique {s = s} {s₂ = s₂} {t = t} {t₂ = t₂} (Run.call {m = m} {t₁ = u} {r = r} h same run)
     (Run.call {later = later₂} {t₁ = u₂} {r = r₂} h₂ same₂ run₂) e =
-    let first = ap (λ (calls : List Call). firstOr (m .call) calls) e in
-    let q = makes-unique h (subst⁻¹ (λ (c : Call). Makes c s t r₂ u₂) first h₂) in
+    let first = ap (λ (calls : List Intake). firstOr (m .call) calls) e in
+    let h₃ = subst⁻¹ (λ (c : Intake). Owed (taking c s t) (r₂, u₂)) first h₂ in
     let later : Run (r .session) u later₂ s₂ t₂ =
-    subst⁻¹ (λ (x : Reply). Run (x .session) u later₂ s₂ t₂) (q .0)
-    (subst⁻¹ (λ (v : List ℕ). Run (r₂ .session) v later₂ s₂ t₂) (q .1) run₂)
+    subst⁻¹ (λ (o : Reply × List ℕ). Run (o .0 .session) (o .1) later₂ s₂ t₂) (intake-unique (m .call) s t h h₃) run₂
     in
     run-unique run later (ap rest e)

@@ -21,14 +21,15 @@ use Rattle.order.proofs.Counts.{opens-with}
 use Rattle.order.proofs.Taking.{taken-in, taken-table, newMark, length-laid}
 use Rattle.promise.specs.declared.Session.{Session}
 use Rattle.promise.specs.declared.Reply.{Reply}
-use Rattle.promise.specs.Sessions.{tested}
+use Rattle.promise.specs.Sessions.{tested, accepted}
 use Rattle.promise.specs.Refusals.{standing}
-use Rattle.promise.specs.Tell.{Kind, adds, tellRefusals, Took}
+use Rattle.promise.specs.Calls.{Owed}
+use Rattle.promise.specs.Tell.{Kind, adds, tellRefusals, tell}
 use Rattle.promise.specs.Runs.{StandsFor}
-use Rattle.promise.specs.Buffers.{over}
+use Rattle.promise.specs.Counts.{over}
 use Rattle.promise.proofs.Standing.{Stands, standing-passed, stands-first, first-stands, standing-there, below-of}
 use Rattle.promise.proofs.Taking.{Leaves, stands-of}
-use Rattle.promise.proofs.Replies.{reply, replies-unique, replies-there}
+use Rattle.promise.proofs.Calls.{owed-done, changes-unique, changes-kept, changes-session, changes-there}
 
 -- the session after an accepted fact, and the marks of its table
 abbrev pub sessionAfter : Kind → Session → List ℕ → Fact → Session
@@ -38,9 +39,9 @@ abbrev pub MarksAfter : Session → List ℕ → Fact → List ℕ → Type 0
 MarksAfter s t f u = TableOf (s .classes) (Marks (s .classes) t with f) u
 
 pub tell-unique :
-    {kind : Kind} {s : Session} {t : List ℕ} {f : Fact} {r r₂ : Reply} {t′ t₂ : List ℕ} → Took kind s t f r t′
-    → Took kind s t f r₂ t₂ → (r ≡ r₂) × (t′ ≡ t₂)
-tell-unique h h₂ = replies-unique (λ u v. table-unique) (h .replies) (h₂ .replies)
+    (kind : Kind) {s : Session} {t : List ℕ} {f : Fact} {o o₂ : Reply × List ℕ} → Owed (tell kind s t f) o
+    → Owed (tell kind s t f) o₂ → o ≡ o₂
+tell-unique kind = changes-unique (λ u v. table-unique)
 
 -- what is known of an accepted fact
 own-passed :
@@ -60,17 +61,14 @@ tell-passed s t f h =
     (p .0, q .0, q .1)
 
 unfoldable pub tell-there :
-    (kind : Kind) (s : Session) (t : List ℕ) (f : Fact) → (r : Reply) × (t′ : List ℕ) × Took kind s t f r t′
+    (kind : Kind) (s : Session) (t : List ℕ) (f : Fact) → (o : Reply × List ℕ) × Owed (tell kind s t f) o
 tell-there kind s t f =
-    let q =
-    replies-there (standing s t (tellRefusals s t f)) s (sessionAfter kind s t f) n (MarksAfter s t f) t
+    changes-there (standing s t (tellRefusals s t f)) s (sessionAfter kind s t f) n (MarksAfter s t f) t
     (standing-there (tellRefusals s t f) s t (λ st.
     stage 5 (either (decLe n (f .lower)) (decLe n (f .upper))) (λ p₅.
     stage 6 (ℕ-discrete (mark n t (f .lower) (f .upper)) (markAgainst (f .holds))) (λ p₆. (0, refl)))))
     (λ g.
     (over (taken-in n t f) t, new g, front-rest n (taken-in n t f) t size (tell-passed s t f g .0 .room)))
-    in
-    (q .0, q .1, record { replies = q .2 })
   where
     n : ℕ
     n = s .classes
@@ -88,26 +86,22 @@ tell-there kind s t f =
         }
 
 -- a fact that the table has already is accepted and changes nothing, where none of the refusals 1 to 4 is due
-pub agreeing-took :
-    (kind : Kind) {s : Session} {t : List ℕ} {f : Fact} → Stands s t → Marks (s .classes) t f → Took kind s t f (reply 0 0 s) t
-agreeing-took kind {s} {t} {f} st m =
-    record {
-      replies =
-          record {
-            number =
-                first-stands (tellRefusals s t f) st
-                (inr (
-                  λ z. elim z [ inl p ↦ omega (arith, m .lower-below) | inr p ↦ omega (arith, m .upper-below) ],
-                  inr (λ z. for-not-against (f .holds) (sym (m .settled) ∙ z), refl),
-                ));
-            place = refl;
-            refused = λ z. absurd (z refl);
-            session = λ _.
-                rw (none-added kind (mark (s .classes) t (f .lower) (f .upper)) settled, add-zero (s .tests)) refl;
-            marks = λ _. table-settled f (sound-table (st .sound)) m;
-            rest = λ _. rest-refl t;
-          };
-    }
+pub agreeing-accepted :
+    (kind : Kind) {s : Session} {t : List ℕ} {f : Fact} → Stands s t → Marks (s .classes) t f
+    → Owed (tell kind s t f) (accepted s, t)
+agreeing-accepted kind {s} {t} {f} st m =
+    owed-done (tell kind s t f)
+    (first-stands (tellRefusals s t f) st
+    (inr (
+      λ z. elim z [ inl p ↦ omega (arith, m .lower-below) | inr p ↦ omega (arith, m .upper-below) ],
+      inr (λ z. for-not-against (f .holds) (sym (m .settled) ∙ z), refl),
+    )))
+    refl
+    (record {
+      reply = rw (none-added kind (mark (s .classes) t (f .lower) (f .upper)) settled, add-zero (s .tests)) refl;
+      marks = table-settled f (sound-table (st .sound)) m;
+      rest = rest-refl t;
+    })
   where
     none-added : (kind : Kind) (k : ℕ) → k ≢ 0 → adds kind 0 k ≡ 0
     none-added Kind.told k z = refl
@@ -118,23 +112,23 @@ agreeing-took kind {s} {t} {f} st m =
     settled z = mark-for-settled (f .holds) (sym (m .settled) ∙ z)
 
 pub agreeing-unchanged :
-    {kind : Kind} {s : Session} {t : List ℕ} {f : Fact} {r : Reply} {t′ : List ℕ} → Stands s t → Marks (s .classes) t f
-    → Took kind s t f r t′ → (r ≡ reply 0 0 s) × (t′ ≡ t)
-agreeing-unchanged {kind} st m h = tell-unique h (agreeing-took kind st m)
+    (kind : Kind) {s : Session} {t : List ℕ} {f : Fact} {r : Reply} {t′ : List ℕ} → Stands s t → Marks (s .classes) t f
+    → Owed (tell kind s t f) (r, t′) → _≡_ {A = Reply × List ℕ} (r, t′) (accepted s, t)
+agreeing-unchanged kind st m h = tell-unique kind h (agreeing-accepted kind st m)
 
 -- the class count stays, the tally grows by what the call adds, and that and what stays open is no more than was open
 pub tell-opens :
-    {kind : Kind} {s : Session} {t : List ℕ} {f : Fact} {r : Reply} {t′ : List ℕ} → Took kind s t f r t′
+    (kind : Kind) {s : Session} {t : List ℕ} {f : Fact} {r : Reply} {t′ : List ℕ} → Owed (tell kind s t f) (r, t′)
     → (k : ℕ) → r .number ≡ k
     → (r .session .classes ≡ s .classes)
     × (r .session .tests ≡ s .tests + adds kind k (mark (s .classes) t (f .lower) (f .upper)))
     × (adds kind k (mark (s .classes) t (f .lower) (f .upper)) + opens (s .classes) t′ ≤ opens (s .classes) t)
-tell-opens {kind} {s} {t} {f} {r} {t′} h zero e =
-    let p = tell-passed s t f (rw e at (h .replies .number)) in
-    let le = opens-with f (marks-within {n = s .classes} {t = t}) (p .1) (sound-table (p .0 .sound)) (h .replies .marks e) in
+tell-opens kind {s} {t} {f} {r} {t′} h zero e =
+    let p = tell-passed s t f (rw e at (h .number)) in
+    let le = opens-with f (marks-within {n = s .classes} {t = t}) (p .1) (sound-table (p .0 .sound)) (h .done e .marks) in
     let q = few kind (mark (s .classes) t (f .lower) (f .upper)) in (
-      ap (λ (x : Session). x .classes) (h .replies .session e),
-      ap (λ (x : Session). x .tests) (h .replies .session e),
+      ap (λ (x : Session). x .classes) (changes-session h e),
+      ap (λ (x : Session). x .tests) (changes-session h e),
       omega arith,
     )
   where
@@ -142,8 +136,8 @@ tell-opens {kind} {s} {t} {f} {r} {t′} h zero e =
     few Kind.told m = omega arith
     few Kind.answered zero = omega arith
     few Kind.answered (suc m) = omega arith
-tell-opens {kind} {s} {t} {f} {r} {t′} h (suc k) e =
-    let q = h .replies .refused (λ z. omega arith) in
+tell-opens kind {s} {t} {f} {r} {t′} h (suc k) e =
+    let q = changes-kept h (λ z. omega arith) in
     rw (q .0, q .1, none kind) (refl, omega arith, omega arith)
   where
     none : (kind : Kind) → adds kind (suc k) (mark (s .classes) t (f .lower) (f .upper)) ≡ 0
@@ -152,23 +146,23 @@ tell-opens {kind} {s} {t} {f} {r} {t′} h (suc k) e =
 
 -- what an accepted fact leaves
 pub tell-leaves :
-    {kind : Kind} {s : Session} {t : List ℕ} {f : Fact} {r : Reply} {t′ : List ℕ} → Took kind s t f r t′ → r .number ≡ 0
+    (kind : Kind) {s : Session} {t : List ℕ} {f : Fact} {r : Reply} {t′ : List ℕ} → Owed (tell kind s t f) (r, t′) → r .number ≡ 0
     → Leaves (Only f) s t (r .session) t′
-tell-leaves {s = s} {t = t} {f = f} h e =
-    let o = tell-opens h 0 e in
+tell-leaves kind {s = s} {t = t} {f = f} h e =
+    let o = tell-opens kind h 0 e in
     record {
-      within = λ g z. rw z (tell-passed s t f (rw e at (h .replies .number)) .1);
+      within = λ g z. rw z (tell-passed s t f (rw e at (h .number)) .1);
       classes = o .0;
-      marks = h .replies .marks e;
-      size = h .replies .rest e .size;
+      marks = h .done e .marks;
+      size = h .done e .rest .size;
       count = omega (arith, o .1, o .2);
     }
 
 -- the refusals of a fact where none of 1 to 4 is due
 pub tell-numbers :
-    {kind : Kind} {s : Session} {t : List ℕ} {f : Fact} {r : Reply} {t′ : List ℕ} → Stands s t → Took kind s t f r t′
+    (kind : Kind) {s : Session} {t : List ℕ} {f : Fact} {r : Reply} {t′ : List ℕ} → Stands s t → Owed (tell kind s t f) (r, t′)
     → (r .number ≡ 0) ⊎ (r .number ≡ 5) ⊎ (r .number ≡ 6)
-tell-numbers {kind} {s} {t} {f} {r} st h = go (stands-first (tellRefusals s t f) st (h .replies .number))
+tell-numbers kind {s} {t} {f} {r} st h = go (stands-first (tellRefusals s t f) st (h .number))
   where
     go : First (tellRefusals s t f) (r .number) → (r .number ≡ 0) ⊎ (r .number ≡ 5) ⊎ (r .number ≡ 6)
     go (inl (_, e)) = inr (inl e)
@@ -178,10 +172,10 @@ tell-numbers {kind} {s} {t} {f} {r} st h = go (stands-first (tellRefusals s t f)
 -- "A fact on two classes below the count is refused as contradictory exactly when no order agrees with it and those accepted before",
 -- and it is refused for no other reason
 pub tell-refused :
-    {kind : Kind} {S : Facts} {s : Session} {t : List ℕ} {f : Fact} {r : Reply} {t′ : List ℕ} → StandsFor S s t
-    → Below (s .classes) f → Took kind s t f r t′
+    (kind : Kind) {S : Facts} {s : Session} {t : List ℕ} {f : Fact} {r : Reply} {t′ : List ℕ} → StandsFor S s t
+    → Below (s .classes) f → Owed (tell kind s t f) (r, t′)
     → ((r .number ≢ 0) ↔ Impossible (s .classes) (S with f)) × (r .number ≢ 0 → r .number ≡ 6)
-tell-refused {kind} {S} {s} {t} {f} {r} st b h = go (stands-first (tellRefusals s t f) (stands-of st) (h .replies .number))
+tell-refused kind {S} {s} {t} {f} {r} st b h = go (stands-first (tellRefusals s t f) (stands-of st) (h .number))
   where
     exact : Contradicts (s .classes) t f ↔ Impossible (s .classes) (S with f)
     exact = contradicts-exact (st .within) (st .table) f b

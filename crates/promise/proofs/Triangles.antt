@@ -12,9 +12,10 @@ use Rattle.order.specs.Pairs.{Pair}
 use Rattle.order.specs.Refusals.{First}
 use Rattle.order.proofs.Pairs.{length-bytes}
 use Rattle.promise.specs.declared.Session.{Session}
-use Rattle.promise.specs.declared.Wrote.{Wrote}
-use Rattle.promise.specs.Buffers.{numberOf}
-use Rattle.promise.specs.Hierarchy.{Under, Direct, StepsOf, hierarchyRefusals, HierarchyWritten}
+use Rattle.promise.specs.declared.Counted.{Counted}
+use Rattle.promise.specs.Calls.{Owed}
+use Rattle.promise.specs.Counts.{countNumber}
+use Rattle.promise.specs.Hierarchy.{Under, Direct, StepsOf, hierarchyRefusals, hierarchy}
 use Rattle.promise.proofs.Standing.{Stands, standing-own}
 use Rattle.promise.proofs.Mantel.{NoTriangle, few-edges}
 use Rattle.promise.proofs.Hierarchy.{direct?, heads-equal}
@@ -48,12 +49,12 @@ steps-few {n} {t} sound h = few-edges (Direct n t) (direct? n t) (no-triangle so
 
 -- "room for 128 heads and 8,192 bytes of steps": with that room 8 never comes up
 pub hierarchy-room :
-    {s : Session} {t heads steps : List ℕ} {r : Wrote} {heads′ steps′ : List ℕ} → 128 ≤ length heads
-    → 8192 ≤ length steps → HierarchyWritten s t heads steps r heads′ steps′ → numberOf r ≢ 8
-hierarchy-room {s} {t} {heads} {steps} {r} many room h e =
+    (s : Session) (t heads steps : List ℕ) {o : Counted × (List ℕ × List ℕ)} → 128 ≤ length heads → 8192 ≤ length steps
+    → Owed (hierarchy s t heads steps) o → countNumber (o .0) ≢ 8
+hierarchy-room s t heads steps {o} many room h e =
     let p = standing-own (hierarchyRefusals s t heads steps) (inr (omega arith)) (h .number) in go (p .0) (p .1)
   where
-    go : Stands s t → First (hierarchyRefusals s t heads steps) (numberOf r) → ⊥
+    go : Stands s t → First (hierarchyRefusals s t heads steps) (countNumber (o .0)) → ⊥
     go st (inl (_, k)) = omega arith
     go st (inr (_, inl (inl (hs, p, short), k))) = omega (arith, p .size, st .few)
     go st (inr (_, inl (inr (w, (l, p, same), short), k))) =

@@ -15,7 +15,7 @@ use Rattle.promise.specs.Tell.{Kind, adds, tellRefusals, Took}
 use Rattle.promise.proofs.Standing.{Stands, first-stands}
 use Rattle.promise.proofs.Replies.{replies-refused}
 use Rattle.promise.proofs.Tell.{agreeing-took}
-use Rattle.passes.specs.Taken.{Takes, TakenIn}
+use Rattle.passes.specs.Taken.{OpenPair, FactTaken}
 use Rattle.session.specs.Facts.{factOn, kindOf, countOf, replyOf, Judged}
 
 module _ (kind : Kind) {s : Session} {t : List ℕ} (st : Stands s t) (lower upper : ℕ) where
@@ -65,8 +65,8 @@ module _ (kind : Kind) {s : Session} {t : List ℕ} (st : Stands s t) (lower upp
 
 -- a fact on an open pair, taken in
 pub open-taken :
-    (counts holds : Bool) (s : Session) (t t′ : List ℕ) (lower upper : ℕ) → Stands s t → Takes (s .classes) t lower upper
-    → TakenIn (s .classes) (factOn lower upper holds) t t′
+    (counts holds : Bool) (s : Session) (t t′ : List ℕ) (lower upper : ℕ) → Stands s t → OpenPair (s .classes) t lower upper
+    → FactTaken (s .classes) (factOn lower upper holds) t t′
     → Took (kindOf counts) s t (factOn lower upper holds) (replyOf 0 (tested (countOf counts) s)) t′
 open-taken counts holds s t t′ lower upper st h taken =
     record {

@@ -11,13 +11,13 @@ ghost use mathlib.Core.List.{[]};
 ghost use Rattle.order.specs.Refusals.{First};
 ghost use Rattle.promise.specs.Refusals.{standing};
 ghost use Rattle.promise.specs.Tell.{Took};
-ghost use Rattle.passes.specs.Taken.{Takes, TakenIn};
+ghost use Rattle.passes.specs.Taken.{OpenPair, FactTaken};
 ghost use Rattle.session.specs.Facts.{factOn, kindOf, Judged};
 
 // A fact on an open pair is taken in.
 fn take_in(n: usize, table: &mut [u8], lower: usize, upper: usize, holds: bool)
-    requires { ⌜ Takes n (now table) lower upper ⌝ }
-    ensures { λ _. ⌜ TakenIn n (factOn lower upper holds) (now (table .entry)) (now (table .exit)) ⌝ }
+    requires { ⌜ OpenPair n (now table) lower upper ⌝ }
+    ensures { λ _. ⌜ FactTaken n (factOn lower upper holds) (now (table .entry)) (now (table .exit)) ⌝ }
 {
     if holds {
         passes::take_yes(n, &mut *table, lower, upper);
@@ -77,7 +77,7 @@ pub fn take(
 ) -> Reply
     ensures { λ r. ⌜ Took (kindOf counts) session (now (table .entry)) (factOn lower upper holds) r (now (table .exit)) ⌝ }
 {
-    let number = standing::standing(session, &*table);
+    let number = standing::first_refusal(session, &*table);
     if number != 0 {
         return refused(number, session);
     }

@@ -54,7 +54,7 @@ pub fn answer(session: Session, table: &mut [u8], lower: usize, upper: usize, ho
 pub fn next(session: Session, table: &[u8]) -> Question
     ensures { λ q. ⌜ Asked session (now (table .entry)) q ⌝ }
 {
-    let number = standing::standing(session, table);
+    let number = standing::first_refusal(session, table);
     if number != 0 {
         return Question::Refused {
             number: number,

@@ -1,4 +1,5 @@
--- What the soundness test looks at is soundness: small marks, a yes diagonal, and for each pair the rows of its two classes.
+-- What the soundness test looks at is soundness: small marks, a yes diagonal, and for each pair the rows of its two
+-- classes.
 -- Assumes nothing.
 use mathlib.Core.Path.{_≡_, refl}
 use mathlib.Core.Logic.{_↔_, _≢_}

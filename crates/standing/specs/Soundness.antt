@@ -17,8 +17,8 @@ pub record SmallMarks (n : ℕ) (t : List ℕ) : Type 0 where
 pub record DiagonalYes (n : ℕ) (t : List ℕ) : Type 0 where
   pub at : (a : ℕ) → a < n → mark n t a a ≡ 1
 
--- what soundness asks of a pair (a, b) where one class is marked x in the row of a and y in the row of b. A yes pair: if b is under the
--- class so is a, and if a is not under it neither is b. An open pair: b is not under it if a is not.
+-- what soundness asks of a pair (a, b) where one class is marked x in the row of a and y in the row of b. A yes pair:
+-- if b is under the class so is a, and if a is not under it neither is b. An open pair: b is not under it if a is not.
 abbrev pub Asks : Bool → ℕ → ℕ → Type 0
 Asks true x y = (y ≡ 1 → x ≡ 1) × (x ≡ 2 → y ≡ 2)
 Asks false x y = y ≡ 1 → x ≢ 2

@@ -17,7 +17,7 @@ ghost use Rattle.promise.specs.declared.Wrote.the-variants.{Refused};
 ghost use Rattle.promise.specs.Refusals.{standing};
 
 // The first of the refusals 1 to 4 that is due, 0 if none is.
-pub fn standing(session: Session, table: &[u8]) -> u8
+pub fn first_refusal(session: Session, table: &[u8]) -> u8
     ensures { λ r. ⌜ First (standing session (now (table .entry)) []) r ⌝ }
 {
     let n = session.classes;

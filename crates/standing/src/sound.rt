@@ -38,7 +38,8 @@ fn diagonal_yes(n: usize, table: &[u8]) -> bool
     true
 }
 
-// Whether what a and b are marked with at one class speaks against the pair (a, b): against a yes, or against leaving it open.
+// Whether what a and b are marked with at one class speaks against the pair (a, b): against a yes, or against leaving
+// it open.
 fn speaks_against(settled: bool, of_a: u8, of_b: u8) -> bool
     ensures { λ r. ⌜ r ≡ against settled «of_a» «of_b» ⌝ }
 {

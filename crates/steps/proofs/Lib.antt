@@ -1,3 +1,3 @@
 pub mod Lowest
-pub mod Found
+pub mod HeadsFound
 pub mod Between

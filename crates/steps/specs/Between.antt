@@ -22,7 +22,8 @@ pub record RowAdded (n : ℕ) (t : List ℕ) (c : ℕ) (flags flags′ : List Bo
 
 -- the same, but the flag of c is as it was
 pub record ThirdAdded (n : ℕ) (t : List ℕ) (c : ℕ) (flags flags′ : List Bool) : Type 0 where
-  pub at : (b : ℕ) → b < n → (getD flags′ b false ≡ true) ↔ ((getD flags b false ≡ true) ⊎ ((c ≢ b) × Under n t c b))
+  pub at :
+      (b : ℕ) → b < n → (getD flags′ b false ≡ true) ↔ ((getD flags b false ≡ true) ⊎ ((c ≢ b) × Under n t c b))
 
 -- a flag for each class, and none is up
 pub record NoneYet (n : ℕ) (flags : List Bool) : Type 0 where

@@ -9,12 +9,13 @@ ghost use mathlib.Core.Logic.{_↔_};
 ghost use mathlib.Core.Bool.{true};
 ghost use Prim.Native.Nat.{_<_};
 ghost use Rattle.promise.specs.Hierarchy.{Head, Direct};
-ghost use Rattle.steps.specs.Found.{Found, StepsNoted};
+ghost use Rattle.steps.specs.HeadsFound.{HeadsFound, StepsNoted};
 ghost use Rattle.steps.specs.Between.{ThirdsOf};
 
 // Whether there is a direct step from head a, whose thirds are found, to b.
 pub fn is_direct(n: usize, table: &[u8], heads: &[u8], thirds: &[bool], a: usize, b: usize) -> bool
-    requires { ⌜ (Found n (now table) (now heads)) × (ThirdsOf n (now table) a (now thirds)) × (Head n (now table) a) × (b < n) ⌝ }
+    requires { ⌜ (HeadsFound n (now table) (now heads)) × (ThirdsOf n (now table) a (now thirds))
+        × (Head n (now table) a) × (b < n) ⌝ }
     ensures { λ r. ⌜ (r ≡ true) ↔ Direct n (now (table .entry)) a b ⌝ }
 {
     if thirds[b] {
@@ -23,9 +24,10 @@ pub fn is_direct(n: usize, table: &[u8], heads: &[u8], thirds: &[bool], a: usize
     is_above(n, table, heads, a, b)
 }
 
-// Counts the direct steps. Each is written, two bytes, ordered by a and then b, if it fits: a buffer with room for all gets all.
+// Counts the direct steps. Each is written, two bytes, ordered by a and then b, if it fits: a buffer with room for all
+// gets all.
 pub fn list_steps(n: usize, table: &[u8], heads: &[u8], steps: &mut [u8]) -> usize
-    requires { ⌜ Found n (now table) (now heads) ⌝ }
+    requires { ⌜ HeadsFound n (now table) (now heads) ⌝ }
     ensures { λ r. ⌜ StepsNoted n (now (table .entry)) (now (steps .entry)) r (now (steps .exit)) ⌝ }
 {
     let mut count: usize = 0;

@@ -8,7 +8,7 @@ ghost use lib.ListN.{length, getD, take};
 ghost use Rattle.promise.specs.Buffers.{over};
 ghost use Rattle.promise.specs.Hierarchy.{Equal, HeadOf};
 ghost use Rattle.marks.specs.Shape.{Shape};
-ghost use Rattle.steps.specs.Found.{Ordered, Found};
+ghost use Rattle.steps.specs.HeadsFound.{SoundTable, HeadsFound};
 
 // Whether a and b are under each other.
 fn equal(n: usize, table: &[u8], a: usize, b: usize) -> bool
@@ -24,7 +24,7 @@ fn equal(n: usize, table: &[u8], a: usize, b: usize) -> bool
 
 // The lowest class equal to a.
 fn head_of(n: usize, table: &[u8], a: usize) -> usize
-    requires { ⌜ (Ordered n (now table)) × (a < n) ⌝ }
+    requires { ⌜ (SoundTable n (now table)) × (a < n) ⌝ }
     ensures { λ r. ⌜ HeadOf n (now (table .entry)) a r ⌝ }
 {
     let mut head = a;
@@ -41,8 +41,8 @@ fn head_of(n: usize, table: &[u8], a: usize) -> usize
 
 // The head of each class is worked out.
 pub fn find_heads(n: usize, table: &[u8], heads: &mut [u8])
-    requires { ⌜ (Ordered n (now table)) × (n ≤ length (now heads)) ⌝ }
-    ensures { λ _. ⌜ Found n (now (table .entry)) (now (heads .exit)) ⌝ }
+    requires { ⌜ (SoundTable n (now table)) × (n ≤ length (now heads)) ⌝ }
+    ensures { λ _. ⌜ HeadsFound n (now (table .entry)) (now (heads .exit)) ⌝ }
 {
     for a in 0..n {
         let head = head_of(n, table, a);

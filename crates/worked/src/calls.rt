@@ -1,7 +1,8 @@
 // One line a call: its arguments and what it gave.
+use crate::shown;
+use crate::shown::text;
 use promise::Reply;
 use promise::Session;
-use shown::text;
 
 // What a call replied, with what next asks then.
 pub fn replied(reply: Reply, table: &[u8]) -> Session {

@@ -1,7 +1,9 @@
-// The worked marks of document 01, and clips, run one by one. The file `stdin` says which calls to make, one to a line; what each gives is printed, one
-// line a call. The stored output is worked out by hand from those marks and the documents' rules. It is not taken from this program.
+// The worked marks of document 01, and clips, run one by one. The file `stdin` says which calls to make, one to a line;
+// what each gives is printed, one line a call. The stored output is worked out by hand from those marks and the
+// documents' rules. It is not taken from this program.
 mod calls;
 mod script;
+mod shown;
 
 use libc::STDIN_FILENO;
 

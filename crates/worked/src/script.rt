@@ -1,6 +1,8 @@
-// The script on standard input. A line is a heading, printed as it is, unless its first letter is that of one of these words:
+// The script on standard input. A line is a heading, printed as it is, unless its first letter is that of one of these
+// words:
 //
-//     bytes 9            the table lent from here on is 9 bytes, all 7, so that bytes left alone show; with no number it is all there are
+//     bytes 9            the table lent from here on is 9 bytes, all 7, so that bytes left alone show; with no number
+//                        it is all there are
 //     marks 1 0 0 1      it is these bytes
 //     session 3 1        the session is one of 3 classes with 1 test
 //     fresh 3            the call on that table, and so on
@@ -14,11 +16,11 @@
 //
 // A number is below 256, and a line has at most 32.
 use crate::calls;
+use crate::shown::text;
 use promise::Clip;
 use promise::MOST_CLASSES;
 use promise::Reply;
 use promise::Session;
-use shown::text;
 ghost use Prim.Native.Nat.{_≤_};
 ghost use lib.ListN.{length};
 ghost use Rattle.io.specs.Counts.{Counts};
@@ -87,7 +89,8 @@ fn number_at(given: &[u8], i: usize) -> usize {
     byte_at(given, i, 0) as usize
 }
 
-// So many bytes are filled: with those given, and behind them with another one again and again. Gives how many; where there is no room, 0.
+// So many bytes are filled: with those given, and behind them with another one again and again. Gives how many; where
+// there is no room, 0.
 fn filled(bytes: &mut [u8], count: usize, given: &[u8], other: u8) -> usize
     ensures { λ r. ⌜ Counts r (now (bytes .exit)) ⌝ }
 {

@@ -10,8 +10,8 @@ use borrow.Author.Needs.{needs}
 use Rattle.clips.proofs.clip.Statement.{statement}
 use Rattle.clips.proofs.clip.Tie as tie
 
-standing-requires : tie.Need-standing-requires
-standing-requires c κs = search needs
+first-refusal-requires : tie.Need-first-refusal-requires
+first-refusal-requires c κs = search needs
 
 refused-requires : tie.Need-refused-requires
 refused-requires c κs = search needs
@@ -22,14 +22,14 @@ same-length c = search needs
 returns : tie.Need-returns
 returns c =
     let tried = c .before in
-    rw (c .refused .ensures) (clip-not-standing (tried .before .standing .ensures) (tried .if1 .taken))
+    rw (c .refused .ensures) (clip-not-standing (tried .before .first-refusal .ensures) (tried .if1 .taken))
 
 take-standing-requires : tie.Need-take-standing-requires
 take-standing-requires c κs =
     let tried = c .before .before .before in
     let start = tried .before .before .before .before in
     subst (λ (k : ℕ). First (standing (start .args .session) (start .args .table .now) []) k) (tried .if1 .left)
-    (tried .before .standing .ensures)
+    (tried .before .first-refusal .ensures)
 
 same-length-2 : tie.Need-same-length-2
 same-length-2 c = search needs
@@ -41,7 +41,7 @@ pub clip-spec : {M : Type 1} → statement M
 clip-spec =
     tie.close
     (tie.spec
-    standing-requires
+    first-refusal-requires
     refused-requires
     same-length
     returns

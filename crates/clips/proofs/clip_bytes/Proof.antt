@@ -15,10 +15,10 @@ use Rattle.clips.proofs.clip_bytes.Tie as tie
 
 -- none of the refusals 1 to 4 is due
 stands : (c : tie.Else1) → Stands (c .before .before .before .before .before .args .session) (c .before .before .before .before .before .args .table .now)
-stands c = stood _ _ _ (c .before .standing .ensures) (c .if1 .left)
+stands c = stood _ _ _ (c .before .first-refusal .ensures) (c .if1 .left)
 
-standing-requires : tie.Need-standing-requires
-standing-requires c κs = search needs
+first-refusal-requires : tie.Need-first-refusal-requires
+first-refusal-requires c κs = search needs
 
 refused-requires : tie.Need-refused-requires
 refused-requires c κs = search needs
@@ -29,7 +29,7 @@ same-length c = search needs
 returns : tie.Need-returns
 returns c =
     let tried = c .before in
-    rw (c .refused .ensures) (bytes-not-standing (tried .before .standing .ensures) (tried .if1 .taken))
+    rw (c .refused .ensures) (bytes-not-standing (tried .before .first-refusal .ensures) (tried .if1 .taken))
 
 refused-requires-2 : tie.Need-refused-requires-2
 refused-requires-2 c κs = search needs
@@ -62,7 +62,7 @@ take-standing-requires c κs =
     let tried = c .before .before .before .before .before .before in
     let start = tried .before .before .before .before .before in
     subst (λ (k : ℕ). First (standing (start .args .session) (start .args .table .now) []) k) (tried .if1 .left)
-    (tried .before .standing .ensures)
+    (tried .before .first-refusal .ensures)
 
 same-length-4 : tie.Need-same-length-4
 same-length-4 c = search needs
@@ -80,7 +80,7 @@ pub clip-bytes-spec : {M : Type 1} → statement M
 clip-bytes-spec =
     tie.close
     (tie.spec
-    standing-requires
+    first-refusal-requires
     refused-requires
     same-length
     returns

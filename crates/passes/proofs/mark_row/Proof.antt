@@ -26,7 +26,7 @@ here :
 here c = along _ (c .before .before .before .before .pre .1) (c .loop-test .taken) (c .before .before .index .ensures)
 
 shape : (c : tie.In-loop Inv-loop μ-loop) → Shape (c .before .before .before .before .args .n) (c .before .loop .table)
-shape c = shape-kept (c .before .before .before .before .pre .0) (c .before .loop .inv .marked .rest)
+shape c = shape-kept (c .before .before .before .before .pre .0) (c .before .loop .inv .spread .rest)
 
 index-requires : tie.Need-index-requires Inv-loop μ-loop
 index-requires c κs = (c .before .pre .0 .few, c .before .pre .1, omega (arith, c .before .pre .1))
@@ -62,7 +62,7 @@ loop-again c =
     (c .if1 .came)
 
 same-length : tie.Need-same-length Inv-loop μ-loop
-same-length c = sym (c .before .loop .inv .marked .rest .size)
+same-length c = sym (c .before .loop .inv .spread .rest .size)
 
 returns : tie.Need-returns Inv-loop μ-loop
 returns c = row-end (c .loop-test .left) (c .before .loop .inv)

@@ -26,7 +26,7 @@ element-copy-out-if1 c = omega (arith, c .before .before .before .pre .few)
 mark-row-requires : tie.Need-mark-row-requires Inv-loop μ-loop
 mark-row-requires c κs =
     let l = c .before .before .before in
-    (shape-kept (l .before .before .before .pre) (l .before .loop .inv .marked .rest), l .loop-test .taken)
+    (shape-kept (l .before .before .before .pre) (l .before .loop .inv .spread .rest), l .loop-test .taken)
 
 add-x : tie.Need-add-x Inv-loop μ-loop
 add-x c = search needs
@@ -44,7 +44,7 @@ loop-again c =
     (c .if1 .came)
 
 same-length : tie.Need-same-length Inv-loop μ-loop
-same-length c = sym (c .before .loop .inv .marked .rest .size)
+same-length c = sym (c .before .loop .inv .spread .rest .size)
 
 returns : tie.Need-returns Inv-loop μ-loop
 returns c = rows-end (c .loop-test .left) (c .before .loop .inv)

@@ -26,20 +26,20 @@ asked s t (Ask a b) h says e = record { number = h; place = refl; says = says }
 asked s t Done h says e = record { number = h; place = refl; says = says }
 asked s t (Refused number place) h says e = absurd (says e)
 
-standing-requires : tie.Need-standing-requires
-standing-requires c κs = search needs
+first-refusal-requires : tie.Need-first-refusal-requires
+first-refusal-requires c κs = search needs
 
 returns : tie.Need-returns
 returns c = search needs
 
 first-open-requires : tie.Need-first-open-requires
-first-open-requires c κs = shaped (stood _ _ _ (c .before .standing .ensures) (c .if1 .left))
+first-open-requires c κs = shaped (stood _ _ _ (c .before .first-refusal .ensures) (c .if1 .left))
 
 returns-2 : tie.Need-returns-2
 returns-2 c =
     let e = c .before in
-    asked _ _ (c .first-open .result) (none _ _ _ (e .before .standing .ensures) (e .if1 .left)) (c .first-open .ensures .0)
+    asked _ _ (c .first-open .result) (none _ _ _ (e .before .first-refusal .ensures) (e .if1 .left)) (c .first-open .ensures .0)
     (c .first-open .ensures .1)
 
 pub next-spec : {M : Type 1} → statement M
-next-spec = tie.close (tie.spec standing-requires returns first-open-requires returns-2)
+next-spec = tie.close (tie.spec first-refusal-requires returns first-open-requires returns-2)

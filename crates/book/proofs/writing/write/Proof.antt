@@ -7,18 +7,18 @@ use borrow.Author.Needs.{needs}
 use Rattle.book.proofs.writing.write.Statement.{statement}
 use Rattle.book.proofs.writing.write.Tie as tie
 
-standing-requires : tie.Need-standing-requires
-standing-requires c κs = search needs
+first-refusal-requires : tie.Need-first-refusal-requires
+first-refusal-requires c κs = search needs
 
 refused-requires : tie.Need-refused-requires
 refused-requires c κs = search needs
 
 returns : tie.Need-returns
-returns c = rw (c .refused .ensures) (write-standing _ _ _ _ (c .before .before .standing .ensures) (c .before .if1 .taken))
+returns c = rw (c .refused .ensures) (write-standing _ _ _ _ (c .before .before .first-refusal .ensures) (c .before .if1 .taken))
 
 -- none of the refusals 1 to 4 is due
 passed : (c : tie.Else1) → let a = c .before .before .before .before .args in Stands (a .session) (a .table .now)
-passed c = stood _ _ _ (c .before .standing .ensures) (c .if1 .left)
+passed c = stood _ _ _ (c .before .first-refusal .ensures) (c .if1 .left)
 
 write-book-requires : tie.Need-write-book-requires
 write-book-requires c κs = shaped (passed (c .before))
@@ -32,4 +32,4 @@ returns-2 c = write-left _ _ _ (passed (c .before .before .before .before)) (c .
 pub write-spec : {M : Type 1} → statement M
 write-spec =
     tie.close
-    (tie.spec standing-requires refused-requires returns write-book-requires same-length returns-2)
+    (tie.spec first-refusal-requires refused-requires returns write-book-requires same-length returns-2)

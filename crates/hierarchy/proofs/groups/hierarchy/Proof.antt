@@ -7,8 +7,8 @@ use borrow.Author.Needs.{needs}
 use Rattle.hierarchy.proofs.groups.hierarchy.Statement.{statement}
 use Rattle.hierarchy.proofs.groups.hierarchy.Tie as tie
 
-standing-requires : tie.Need-standing-requires
-standing-requires c κs = search needs
+first-refusal-requires : tie.Need-first-refusal-requires
+first-refusal-requires c κs = search needs
 
 refused-requires : tie.Need-refused-requires
 refused-requires c κs = search needs
@@ -16,11 +16,11 @@ refused-requires c κs = search needs
 returns : tie.Need-returns
 returns c =
     rw (c .refused .ensures)
-    (hierarchy-standing _ _ _ _ _ (c .before .before .standing .ensures) (c .before .if1 .taken))
+    (hierarchy-standing _ _ _ _ _ (c .before .before .first-refusal .ensures) (c .before .if1 .taken))
 
 -- none of the refusals 1 to 4 is due
 passed : (c : tie.Else1) → let a = c .before .before .before .before .before .args in Stands (a .session) (a .table .now)
-passed c = stood _ _ _ (c .before .standing .ensures) (c .if1 .left)
+passed c = stood _ _ _ (c .before .first-refusal .ensures) (c .if1 .left)
 
 count-open-requires : tie.Need-count-open-requires
 count-open-requires c κs = shaped (passed c)
@@ -55,7 +55,7 @@ pub hierarchy-spec : {M : Type 1} → statement M
 hierarchy-spec =
     tie.close
     (tie.spec
-    standing-requires
+    first-refusal-requires
     refused-requires
     returns
     count-open-requires

@@ -1,4 +1,5 @@
--- `hierarchy::groups::write_hierarchy` meets its contract: heads and steps are found, both buffers tested, and then both written.
+-- `hierarchy::groups::write_hierarchy` meets its contract: heads and steps are found, both buffers tested, and then
+-- both written.
 -- Assumes nothing.
 use Prim.Native.Nat.{ℕ}
 use native.Mathlib.Omega.{arith}

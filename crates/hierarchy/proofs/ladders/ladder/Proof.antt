@@ -9,22 +9,22 @@ use borrow.Author.Needs.{needs}
 use Rattle.hierarchy.proofs.ladders.ladder.Statement.{statement}
 use Rattle.hierarchy.proofs.ladders.ladder.Tie as tie
 
-standing-requires : tie.Need-standing-requires
-standing-requires c κs = search needs
+first-refusal-requires : tie.Need-first-refusal-requires
+first-refusal-requires c κs = search needs
 
 refused-requires : tie.Need-refused-requires
 refused-requires c κs = search needs
 
 returns : tie.Need-returns
 returns c =
-    rw (c .refused .ensures) (ladder-standing _ _ _ _ _ _ (c .before .before .standing .ensures) (c .before .if1 .taken))
+    rw (c .refused .ensures) (ladder-standing _ _ _ _ _ _ (c .before .before .first-refusal .ensures) (c .before .if1 .taken))
 
 refused-requires-2 : tie.Need-refused-requires-2
 refused-requires-2 c κs = search needs
 
 -- none of the refusals 1 to 4 is due
 passed : (c : tie.Else1) → let a = c .before .before .before .before .args in Stands (a .session) (a .table .now)
-passed c = stood _ _ _ (c .before .standing .ensures) (c .if1 .left)
+passed c = stood _ _ _ (c .before .first-refusal .ensures) (c .if1 .left)
 
 returns-2 : tie.Need-returns-2
 returns-2 c =
@@ -72,7 +72,7 @@ write-ladder-requires c κs =
     let below = c .before .before .before .before .before in
     let st = passed (below .before .before) in
     record {
-      ordered = record { shape = shaped st; sound = st .sound };
+      table = record { shape = shaped st; sound = st .sound };
       lower-below = below .before .if2 .left;
       upper-below = below .if3 .left;
       under = granted (c .before .if5 .left) (c .before .before .under .ensures);
@@ -94,7 +94,7 @@ pub ladder-spec : {M : Type 1} → statement M
 ladder-spec =
     tie.close
     (tie.spec
-    standing-requires
+    first-refusal-requires
     refused-requires
     returns
     refused-requires-2

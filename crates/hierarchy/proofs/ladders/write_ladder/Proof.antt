@@ -18,7 +18,7 @@ array-read-start c = search needs
 cast-start : tie.Need-cast-start
 cast-start c =
     let p = c .before .before .before .before .before .pre in
-    omega (arith, c .before .find-heads .ensures .at _ (p .lower-below) .below, p .ordered .shape .few)
+    omega (arith, c .before .find-heads .ensures .at _ (p .lower-below) .below, p .table .shape .few)
 
 slice-aggregate-climb : tie.Need-slice-aggregate-climb
 slice-aggregate-climb c = search needs

@@ -13,8 +13,8 @@ use borrow.Author.Needs.{needs}
 use Rattle.session.proofs.facts.take.Statement.{statement}
 use Rattle.session.proofs.facts.take.Tie as tie
 
-standing-requires : tie.Need-standing-requires
-standing-requires c κs = search needs
+first-refusal-requires : tie.Need-first-refusal-requires
+first-refusal-requires c κs = search needs
 
 refused-requires : tie.Need-refused-requires
 refused-requires c κs = search needs
@@ -28,13 +28,13 @@ returns c =
     let a = tried .before .before .before .before .args in
     let own = tellRefusals (a .session) (a .table .now) (factOn (a .lower) (a .upper) (a .holds)) in
     rw (c .refused .ensures)
-    (record { replies = replies-refused (standing-refused own _ _ _ (tried .before .standing .ensures) (tried .if1 .taken)) (tried .if1 .taken) })
+    (record { replies = replies-refused (standing-refused own _ _ _ (tried .before .first-refusal .ensures) (tried .if1 .taken)) (tried .if1 .taken) })
 
 take-standing-requires : tie.Need-take-standing-requires
 take-standing-requires c κs =
     let start = c .before .before .before .before .before in
     subst (λ (k : ℕ). First (standing (start .args .session) (start .args .table .now) []) k) (c .before .if1 .left)
-    (c .before .before .standing .ensures)
+    (c .before .before .first-refusal .ensures)
 
 same-length-2 : tie.Need-same-length-2
 same-length-2 c = search needs
@@ -46,7 +46,7 @@ pub take-spec : {M : Type 1} → statement M
 take-spec =
     tie.close
     (tie.spec
-    standing-requires
+    first-refusal-requires
     refused-requires
     same-length
     returns

@@ -2,7 +2,7 @@
 -- Assumes nothing.
 use mathlib.Core.Path.{subst⁻¹}
 use mathlib.Core.Bool.{Bool}
-use Rattle.passes.specs.Taken.{TakenIn}
+use Rattle.passes.specs.Taken.{FactTaken}
 use Rattle.session.specs.Facts.{factOn}
 use borrow.Author.Needs.{needs}
 use Rattle.session.proofs.facts.take_in.Statement.{statement}
@@ -21,7 +21,7 @@ returns : tie.Need-returns
 returns c =
     let start = c .before .before .before .before .before .before in
     let a = start .args in
-    subst⁻¹ (λ (b : Bool). TakenIn (a .n) (factOn (a .lower) (a .upper) b) (a .table .now) (c .before .before .take-yes .last .1 .0))
+    subst⁻¹ (λ (b : Bool). FactTaken (a .n) (factOn (a .lower) (a .upper) b) (a .table .now) (c .before .before .take-yes .last .1 .0))
     (c .before .before .before .before .if1 .taken) (c .before .before .take-yes .ensures)
 
 same-length-2 : tie.Need-same-length-2
@@ -31,7 +31,7 @@ returns-2 : tie.Need-returns-2
 returns-2 c =
     let start = c .before .before .before .before .before .before in
     let a = start .args in
-    subst⁻¹ (λ (b : Bool). TakenIn (a .n) (factOn (a .lower) (a .upper) b) (a .table .now) (c .before .before .take-no .last .1 .0))
+    subst⁻¹ (λ (b : Bool). FactTaken (a .n) (factOn (a .lower) (a .upper) b) (a .table .now) (c .before .before .take-no .last .1 .0))
     (c .before .before .before .before .if1 .left) (c .before .before .take-no .ensures)
 
 pub take-in-spec : {M : Type 1} → statement M

@@ -6,7 +6,7 @@ use native.Mathlib.Omega.{arith}
 use Rattle.promise.proofs.Standing.{stood}
 use Rattle.marks.specs.Shape.{byteOf}
 use Rattle.marks.proofs.Shape.{square, shaped}
-use Rattle.passes.specs.Taken.{Takes}
+use Rattle.passes.specs.Taken.{OpenPair}
 use Rattle.session.proofs.Takes.{no-such-class, judged-yes, judged-no, open-taken}
 use borrow.Author.Needs.{needs}
 use Rattle.session.proofs.facts.take_standing.Statement.{statement}
@@ -53,7 +53,7 @@ enum-told-3 c = search needs
 opened :
     (e : tie.After-enum-told3)
     → let a = e .before .before .before .before .before .before .before .args in
-    Takes (a .session .classes) (a .table .now) (a .lower) (a .upper)
+    OpenPair (a .session .classes) (a .table .now) (a .lower) (a .upper)
 opened e =
     let known = e .before .before in
     let start = known .before .before .before .before .before in

@@ -1,4 +1,5 @@
--- `steps::direct::is_direct` meets its contract: what is left of a direct step where no third head stands between is a head above.
+-- `steps::direct::is_direct` meets its contract: what is left of a direct step where no third head stands between is a
+-- head above.
 -- Assumes nothing.
 use mathlib.Core.Logic.{Iff·trans}
 use borrow.Author.Needs.{needs}

@@ -8,7 +8,7 @@ use Rattle.promise.specs.Hierarchy.{Direct}
 use Rattle.promise.proofs.Hierarchy.{direct?}
 use Rattle.marks.proofs.Answers.{refuted}
 use Rattle.marks.proofs.Noting.{SoFar, Along, so-far-none, along-none, few, hit, miss, row-end, all-noted}
-use Rattle.steps.proofs.Found.{head-at}
+use Rattle.steps.proofs.HeadsFound.{head-at}
 use Rattle.steps.proofs.Between.{none-yet, no-steps}
 use Rattle.steps.proofs.direct.list_steps.Statement.{statement}
 use Rattle.steps.proofs.direct.list_steps.Tie as tie
@@ -39,7 +39,7 @@ find-thirds-requires : tie.Need-find-thirds-requires Inv-loop2 μ-loop2 Inv-loop
 find-thirds-requires c κs =
     let l = c .before .before .before .before in
     let f = l .before .before .before .before .pre in
-    (f, c .before .before .before .loop-test .taken, none-yet (f .ordered .shape .few))
+    (f, c .before .before .before .loop-test .taken, none-yet (f .table .shape .few))
 
 loop2-holds : tie.Need-loop2-holds Inv-loop2 μ-loop2 Inv-loop μ-loop
 loop2-holds c = (omega arith, along-none)
@@ -64,7 +64,7 @@ so-few : (c : tie.In-loop2 Inv-loop2 μ-loop2 Inv-loop μ-loop) → c .before .l
 so-few c =
     let turn = c .before .before .before .before .before .before .before in
     let l = turn .before in
-    few (c .before .loop2 .inv .1 .carry _ (l .loop .inv .1)) (l .before .before .before .before .pre .ordered .shape .few)
+    few (c .before .loop2 .inv .1 .carry _ (l .loop .inv .1)) (l .before .before .before .before .pre .table .shape .few)
     (turn .loop-test .taken) (c .loop2-test .taken)
 
 mul-put-pair : tie.Need-mul-put-pair Inv-loop2 μ-loop2 Inv-loop μ-loop

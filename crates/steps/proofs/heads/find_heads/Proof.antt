@@ -63,7 +63,7 @@ returns : tie.Need-returns Inv-loop μ-loop
 returns c =
     let h = c .before .loop .inv in
     let p = c .before .before .before .before .pre in
-    record { ordered = p .0; room = omega (arith, h .size); at = λ a l. h .at a (omega arith) }
+    record { table = p .0; room = omega (arith, h .size); at = λ a l. h .at a (omega arith) }
 
 pub find-heads-spec : {M : Type 1} → statement M
 find-heads-spec =

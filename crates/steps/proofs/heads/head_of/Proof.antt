@@ -1,4 +1,5 @@
--- `steps::heads::head_of` meets its contract: a is equal to itself, and each class passed is compared with the lowest so far.
+-- `steps::heads::head_of` meets its contract: a is equal to itself, and each class passed is compared with the lowest
+-- so far.
 -- Assumes nothing.
 use mathlib.Core.Logic.{⊎-elim}
 use Prim.Native.Nat.{_-_}

@@ -33,7 +33,7 @@ add-third-requires c κs =
     let passing = c .before .before .before .before .before in
     let l = passing .before in
     let p = l .before .before .before .before .pre in
-    (p .0 .ordered .shape, passing .loop-test .taken, omega (arith, p .2 .room, l .loop .inv .size))
+    (p .0 .table .shape, passing .loop-test .taken, omega (arith, p .2 .room, l .loop .inv .size))
 
 add-c : tie.Need-add-c Inv-loop μ-loop
 add-c c = omega arith
@@ -46,7 +46,7 @@ loop-again c =
     let l = c .before .before .before in
     let h = l .loop .inv in
     let above = c .before .is-above .ensures in
-    let sound = l .before .before .before .before .pre .0 .ordered .sound in
+    let sound = l .before .before .before .before .pre .0 .table .sound in
     ⊎-elim
     (λ w. rw (w .7) (thirds-add (omega arith) h (above .0 (w .0 .taken)) (w .4 .kept .1 .1 .1 .0) (w .4 .ensures)))
     (⊎-elim (λ w. rw (w .3) (thirds-known (omega arith) h sound (not-false _ (w .2 .left))))

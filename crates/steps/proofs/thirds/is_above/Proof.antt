@@ -2,7 +2,7 @@
 -- Assumes nothing.
 use borrow.Author.Needs.{needs}
 use Rattle.marks.proofs.Answers.{granted, denied, never}
-use Rattle.steps.proofs.Found.{head-at}
+use Rattle.steps.proofs.HeadsFound.{head-at}
 use Rattle.steps.proofs.thirds.is_above.Statement.{statement}
 use Rattle.steps.proofs.thirds.is_above.Tie as tie
 

@@ -1,4 +1,5 @@
--- `worked::script::run` meets its contract: what is lent of the table is there, and each line ends behind where it begins.
+-- `worked::script::run` meets its contract: what is lent of the table is there, and each line ends behind where it
+-- begins.
 -- Assumes nothing.
 use mathlib.Core.Path.{_≡_, sym}
 use Prim.Native.Nat.{_≤_, _-_}

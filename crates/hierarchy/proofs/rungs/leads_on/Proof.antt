@@ -1,0 +1,24 @@
+-- `hierarchy::rungs::leads_on` meets its contract.
+-- Assumes nothing.
+use borrow.Author.Needs.{needs}
+use Rattle.marks.proofs.Answers.{granted, denied, never}
+use Rattle.hierarchy.proofs.rungs.leads_on.Statement.{statement}
+use Rattle.hierarchy.proofs.rungs.leads_on.Tie as tie
+
+is-direct-requires : tie.Need-is-direct-requires
+is-direct-requires c κs = search needs
+
+returns : tie.Need-returns
+returns c = never (λ h. denied (c .if1 .taken) (c .before .is-direct .ensures) (h .0))
+
+under-requires : tie.Need-under-requires
+under-requires c κs = search needs
+
+returns-2 : tie.Need-returns-2
+returns-2 c = (
+  λ e. (granted (c .before .if1 .left) (c .before .before .is-direct .ensures), c .under .ensures .0 e),
+  λ h. c .under .ensures .1 (h .1),
+)
+
+pub leads-on-spec : {M : Type 1} → statement M
+leads-on-spec = tie.close (tie.spec is-direct-requires returns under-requires returns-2)

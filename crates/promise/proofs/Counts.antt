@@ -1,0 +1,108 @@
+-- Calls that count: two outcomes for one input are equal, there is one, and a buffer keeps its length, given that what is to be written
+-- is fixed and there.
+-- Assumes nothing.
+use mathlib.Core.Path.{_≡_, refl, sym, _∙_, ap, ap₂, subst}
+use mathlib.Core.List.{List, [], _∷_, _++_, append-assoc}
+use Prim.Native.Nat.{ℕ, suc, _+_, _≤_, _<_}
+use native.Mathlib.Decide.{ℕ-discrete, decLt}
+use native.Mathlib.Omega.{arith}
+use lib.ListN.{length, getD, set, take, drop, length-append, length-drop}
+use lib.Seq.{drop-cons, append-snoc, drop-append-add, drop-drop, set-at, take-at}
+use Rattle.order.specs.Tables.{opens}
+use Rattle.order.specs.Refusals.{Condition, First}
+use Rattle.promise.specs.declared.Session.{Session}
+use Rattle.promise.specs.declared.Counted.{Counted}
+use Rattle.promise.specs.declared.Counted.the-variants.{Count}
+use Rattle.promise.specs.Calls.{Owed}
+use Rattle.promise.specs.Counts.{countNumber, openPairs, over, TooShort, writes}
+use Rattle.promise.proofs.Standing.{standing-there}
+use Rattle.promise.proofs.Calls.{Fixed, owed-unique, owed-there}
+
+-- a buffer that is long enough keeps its length
+pub over-fits : (w out : List ℕ) → length w ≤ length out → length (over w out) ≡ length out
+over-fits w out h = omega (arith, length-append w (drop (length w) out), length-drop (length w) out)
+
+pub over-length :
+    (P : List ℕ → Type 0) (w out : List ℕ) → P w → ¬ TooShort P out → length (over w out) ≡ length out
+over-length P w out p room = go (decLt (length out) (length w))
+  where
+    go : Dec (length out < length w) → length (over w out) ≡ length out
+    go (yes h) = absurd (room (w, p, h))
+    go (no h) = over-fits w out (omega arith)
+
+-- one byte more stands right behind those written
+pub over-more :
+    (w out : List ℕ) (i x : ℕ) → length w ≡ i → i < length out → set (over w out) i x ≡ over (w ++ x ∷ []) out
+over-more w out i x e h =
+    let more : suc (length w) ≡ length (w ++ x ∷ []) = omega (arith, length-append w (x ∷ [])) in
+    ap (λ (u : List ℕ). set (w ++ u) i x) (drop-cons out (length w) 0 (omega arith))
+    ∙ set-at w (getD out (length w) 0) (drop (suc (length w)) out) x i e
+    ∙ sym (append-snoc w x (drop (suc (length w)) out))
+    ∙ ap (λ (k : ℕ). w ++ (x ∷ []) ++ drop k out) more
+
+-- and so do more bytes
+pub over-append :
+    (w x out : List ℕ) (i : ℕ) → length w ≡ i
+    → take i (over w out) ++ (x ++ drop (i + length x) (over w out)) ≡ over (w ++ x) out
+over-append w x out i e =
+    let rest = drop (length w) out in
+    let behind : drop (i + length x) (over w out) ≡ drop (length (w ++ x)) out =
+    ap (λ (k : ℕ). drop (k + length x) (over w out)) (sym e)
+    ∙ drop-append-add w rest (length x)
+    ∙ drop-drop (length x) (length w) out
+    ∙ ap (λ (k : ℕ). drop k out) (sym (length-append w x))
+    in
+    ap₂ (λ (u v : List ℕ). u ++ (x ++ v)) (take-at w rest i e) behind ∙ sym (append-assoc w x (drop (length (w ++ x)) out))
+
+-- an empty part of a buffer is lent, so nothing is written
+pub lent-none : (l out : List ℕ) → length l ≡ 0 → l ++ out ≡ out
+lent-none [] out e = refl
+lent-none (x ∷ l) out e = absurd (omega arith)
+
+-- whether a buffer is too short, where one list is to be written
+unfoldable pub too-short? :
+    (P : List ℕ → Type 0) (w : List ℕ) → P w → ((u v : List ℕ) → P u → P v → u ≡ v) → (out : List ℕ)
+    → Dec (TooShort P out)
+too-short? P w p unique out = go (decLt (length out) (length w))
+  where
+    go : Dec (length out < length w) → Dec (TooShort P out)
+    go (yes h) = yes (w, p, h)
+    go (no h) =
+        no (λ z. h (subst (λ (u : List ℕ). length out < length u) (unique (z .0) w (z .1) p) (z .2)))
+
+module _ (refusals : List Condition) (P : List ℕ → Type 0) (out : List ℕ) where
+  pub writes-fixed : (First refusals 0 → (u v : List ℕ) → P u → P v → u ≡ v) → Fixed (writes refusals P out)
+  writes-fixed unique f o o₂ d d₂ =
+      d .2 ∙ ap (λ (w : List ℕ). (Count (length w), over w out)) (unique f (d .0) (d₂ .0) (d .1) (d₂ .1)) ∙ sym (d₂ .2)
+
+  unfoldable pub writes-there :
+      (k : ℕ) × First refusals k → (First refusals 0 → (w : List ℕ) × P w)
+      → (o : Counted × List ℕ) × Owed (writes refusals P out) o
+  writes-there first made =
+      owed-there (writes refusals P out) (λ k. refl) first (λ f.
+      let w = made f in ((Count (length (w .0)), over (w .0) out), refl, (w .0, w .1, refl)))
+
+  -- the length of a buffer stays
+  pub writes-length :
+      (First refusals 0 → ¬ TooShort P out) → {o : Counted × List ℕ} → Owed (writes refusals P out) o
+      → length (o .1) ≡ length out
+  writes-length room {o} h = go (ℕ-discrete (countNumber (o .0)) 0)
+    where
+      go : Dec (countNumber (o .0) ≡ 0) → length (o .1) ≡ length out
+      go (yes e) =
+          let d = h .done e in
+          ap (λ (x : Counted × List ℕ). length (x .1)) (d .2) ∙ over-length P (d .0) out (d .1) (room (rw e at (h .number)))
+      go (no e) = ap (λ (x : Counted × List ℕ). length (x .1)) (h .refused e)
+
+-- how many pairs are open
+
+pub open-pairs-fixed : (s : Session) (t : List ℕ) → Fixed (openPairs s t)
+open-pairs-fixed s t f r r₂ d d₂ = d ∙ sym d₂
+
+pub open-pairs-unique : (s : Session) (t : List ℕ) {r r₂ : Counted} → Owed (openPairs s t) r → Owed (openPairs s t) r₂ → r ≡ r₂
+open-pairs-unique s t = owed-unique (openPairs s t) (open-pairs-fixed s t)
+
+unfoldable pub open-pairs-there : (s : Session) (t : List ℕ) → (r : Counted) × Owed (openPairs s t) r
+open-pairs-there s t =
+    owed-there (openPairs s t) (λ k. refl) (standing-there [] s t (λ st. (0, refl))) (λ f.
+    (Count (opens (s .classes) t), refl, refl))
