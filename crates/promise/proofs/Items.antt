@@ -1,24 +1,17 @@
 -- The items of a book from any place on, in terms of the bytes there, with nothing left out: one field after the other, and in a field one
 -- fact after the other. And a field's refusals by its bytes, as document 01 words them.
 -- Assumes nothing.
-use mathlib.Core.Path.{_≡_, refl, sym, _∙_, ap, subst}
-use mathlib.Core.Logic.{_↔_, _≢_, _⊎_, inl, inr, ⊎-elim}
-use mathlib.Core.Bool.{Bool, true, false}
+use mathlib.Core.Path.{_≡_, refl, ap}
 use mathlib.Core.List.{List, [], _∷_, _++_}
-use Prim.Native.Nat.{ℕ, zero, suc, _+_, _*_, _-_, _%_, _≤_, _<_}
+use Prim.Native.Nat.{ℕ, zero, suc, _+_, _≤_, _<_}
 use native.Mathlib.Nat.{add-zero}
-use native.Mathlib.Decide.{ℕ-discrete, decLt}
 use native.Mathlib.Omega.{arith}
-use lib.Dec.{eqb}
 use lib.ListN.{length, getD, drop, length-drop, drop-of-length-le}
 use lib.Seq.{getD-drop, drop-drop}
-use Rattle.order.specs.Refusals.{Condition, First}
 use Rattle.order.proofs.Refusals.{stage}
 use Rattle.promise.specs.declared.Stage.{Stage}
-use Rattle.promise.specs.declared.Stage.the-variants.{Start, Begun}
-use Rattle.promise.specs.Refusals.{cutShort, unknownTag, misplacedTag, badLength}
 use Rattle.promise.specs.Tell.{Kind}
-use Rattle.promise.specs.Book.{Contents, TagRow, countRow, factsRow, Lookup, rowOf, lengthOf, sizeOf, rowRefusals, fieldRefusals, Item, factsFrom, fieldSays, stageBehind, itemsFrom}
+use Rattle.promise.specs.Book.{rowOf, sizeOf, Item, factsFrom, fieldSays, stageBehind, itemsFrom}
 
 -- as many fields as there are bytes are enough
 items-fuel :

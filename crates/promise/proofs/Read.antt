@@ -11,7 +11,7 @@ use lib.ListN.{length, getD, drop}
 use Rattle.order.specs.Refusals.{First}
 use Rattle.order.proofs.Refusals.{first-unique, stage as judge}
 use Rattle.promise.specs.declared.Stage.{Stage}
-use Rattle.promise.specs.declared.Stage.the-variants.{Start, Begun}
+use Rattle.promise.specs.declared.Stage.the-variants.{Begun}
 use Rattle.promise.specs.declared.Session.{Session}
 use Rattle.promise.specs.declared.Reply.{Reply}
 use Rattle.promise.specs.Refusals.{badVerdict}
