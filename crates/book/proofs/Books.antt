@@ -11,13 +11,13 @@ use Rattle.order.specs.Refusals.{First}
 use Rattle.order.proofs.Pairs.{lists-unique, pairsOf, before-all, pairs-listed, length-bytes}
 use Rattle.order.proofs.Counting.{before-length}
 use Rattle.promise.specs.declared.Session.{Session}
-use Rattle.promise.specs.declared.Wrote.{Wrote}
-use Rattle.promise.specs.declared.Wrote.the-variants.{Count, Refused}
+use Rattle.promise.specs.declared.Counted.{Counted}
+use Rattle.promise.specs.declared.Counted.the-variants.{Count, Refused}
 use Rattle.promise.specs.Refusals.{standing}
-use Rattle.promise.specs.Buffers.{over}
+use Rattle.promise.specs.Counts.{over}
 use Rattle.promise.specs.Write.{field, Marked, BookOf, writeRefusals, BookWritten}
 use Rattle.promise.proofs.Standing.{Stands, standing-refused, first-stands}
-use Rattle.promise.proofs.Buffers.{over-more, writes-refused}
+use Rattle.promise.proofs.Counts.{over-more, writes-refused}
 use Rattle.promise.proofs.Write.{Off, off?, book-length, book-longest}
 use Rattle.marks.specs.Shape.{Shape}
 use Rattle.marks.proofs.Shape.{square}
@@ -170,7 +170,7 @@ module _ (s : Session) (t out : List ℕ) where
       (standing-refused (writeRefusals s t out) s t k f e) e
 
   pub write-left :
-      {r : Wrote} {out′ : List ℕ} → Stands s t → BookLeft (s .classes) t out r out′ → BookWritten s t out r out′
+      {r : Counted} {out′ : List ℕ} → Stands s t → BookLeft (s .classes) t out r out′ → BookWritten s t out r out′
   write-left st h =
       record {
         number = first-stands (writeRefusals s t out) st (h .number);

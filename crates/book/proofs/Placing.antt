@@ -6,8 +6,8 @@ use Prim.Native.Nat.{ℕ, suc, _+_, _-_, _≤_}
 use native.Mathlib.Omega.{arith}
 use lib.ListN.{length, set, take, drop, length-append, length-drop, drop-of-length-le}
 use lib.Seq.{length-take-le, take-all, take-append-le, take-take, drop-drop, drop-at, sets-eq}
-use Rattle.promise.specs.Buffers.{over}
-use Rattle.promise.proofs.Buffers.{over-append}
+use Rattle.promise.specs.Counts.{over}
+use Rattle.promise.proofs.Counts.{over-append}
 use Rattle.book.specs.Fields.{Placed}
 
 -- three bytes stored one behind the other

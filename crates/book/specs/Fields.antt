@@ -5,9 +5,9 @@ use mathlib.Core.List.{List, [], _∷_, _++_}
 use Prim.Native.Nat.{ℕ, _+_, _≤_}
 use lib.ListN.{length, take, drop}
 use Rattle.order.specs.Pairs.{Pair, bytesOf}
-use Rattle.promise.specs.declared.Wrote.{Wrote}
+use Rattle.promise.specs.declared.Counted.{Counted}
 use Rattle.promise.specs.Refusals.{noRoom}
-use Rattle.promise.specs.Buffers.{over, TooShort, Writes}
+use Rattle.promise.specs.Counts.{over, TooShort, Writes}
 use Rattle.promise.specs.Write.{field, Marked, BookOf}
 use Rattle.marks.specs.Shape.{Shape}
 use Rattle.marks.specs.Noted.{Noted}
@@ -45,5 +45,5 @@ pub record BookPlaced (n : ℕ) (t out : List ℕ) (size : ℕ) (out′ : List �
   pub placed : out′ ≡ over book out
 
 -- what write still owes where none of the refusals 1 to 4 is due
-abbrev pub BookLeft : ℕ → List ℕ → List ℕ → Wrote → List ℕ → Type 0
+abbrev pub BookLeft : ℕ → List ℕ → List ℕ → Counted → List ℕ → Type 0
 BookLeft n t out r out′ = Writes (noRoom (TooShort (BookOf n t) out) ∷ []) (BookOf n t) out r out′

@@ -4,10 +4,10 @@ use marks::YES;
 use marks::is_marked;
 use marks::put_pair;
 use promise::CLASS_COUNT;
+use promise::Counted;
 use promise::NO_FACTS;
 use promise::NO_ROOM;
 use promise::Session;
-use promise::Wrote;
 use promise::YES_FACTS;
 use standing::first_refusal;
 use standing::refused;
@@ -73,7 +73,7 @@ fn write_fields(n: usize, table: &[u8], out: &mut [u8]) -> usize
 }
 
 // The book of a table, where only 8 may still be due. Its pairs are counted before any byte is written, over an empty part of the buffer.
-fn write_book(n: usize, table: &[u8], out: &mut [u8]) -> Wrote
+fn write_book(n: usize, table: &[u8], out: &mut [u8]) -> Counted
     requires { ⌜ Shape n (now table) ⌝ }
     ensures { λ r. ⌜ BookLeft n (now (table .entry)) (now (out .entry)) r (now (out .exit)) ⌝ }
 {
@@ -83,11 +83,11 @@ fn write_book(n: usize, table: &[u8], out: &mut [u8]) -> Wrote
         return refused(NO_ROOM);
     }
     let size = write_fields(n, table, out);
-    Wrote::Count(size)
+    Counted::Count(size)
 }
 
 // Writes the book of a table, and gives its length. Refuses with 1 to 4, and with 8 if the buffer is too short; then no byte is written.
-pub fn write(session: Session, table: &[u8], out: &mut [u8]) -> Wrote
+pub fn write(session: Session, table: &[u8], out: &mut [u8]) -> Counted
     ensures { λ r. ⌜ BookWritten session (now (table .entry)) (now (out .entry)) r (now (out .exit)) ⌝ }
 {
     let number = first_refusal(session, table);

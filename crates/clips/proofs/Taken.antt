@@ -8,49 +8,40 @@ use Prim.Native.Nat.{ℕ, _<_}
 use native.Mathlib.Omega.{arith}
 use Rattle.order.specs.Tables.{mark, Settles, SomeContradicts}
 use Rattle.promise.specs.declared.Session.{Session}
-use Rattle.promise.specs.Flags.{Flagged}
-use Rattle.promise.specs.Clips.{ClipNo, MemberBeyond, clipRefusals, Clipped}
+use Rattle.promise.specs.Sessions.{refusal, accepted}
+use Rattle.promise.specs.Calls.{Owed}
+use Rattle.promise.specs.Clips.{Flagged, ClipNo, MemberBeyond, clipRefusals, clip}
 use Rattle.promise.proofs.Standing.{Stands, first-stands}
-use Rattle.promise.proofs.Replies.{replies-refused}
+use Rattle.promise.proofs.Calls.{owed-refused, owed-done}
 use Rattle.promise.proofs.Clips.{contrary, clip-step}
 use Rattle.passes.specs.Spread.{FlagsOf, Becomes, Spread}
-use Rattle.session.specs.Facts.{replyOf}
 
 module _ {s : Session} {t : List ℕ} {played : List Bool} (st : Stands s t) where
   -- 5: a class of n or more played
-  pub clip-beyond : MemberBeyond (s .classes) played → Clipped s t played (replyOf 5 s) t
+  pub clip-beyond : MemberBeyond (s .classes) played → Owed (clip s t played) (refusal 5 s, t)
   clip-beyond b =
-      record {
-        replies = replies-refused (first-stands (clipRefusals s t played) st (inl (b, refl))) (λ z. omega arith);
-      }
+      owed-refused (clip s t played) (λ k. refl) (first-stands (clipRefusals s t played) st (inl (b, refl))) (λ z. omega arith)
 
   module _ (inside : ¬ MemberBeyond (s .classes) played) where
     -- 6: one of the noes contradicts
     pub clip-contradicted :
-        SomeContradicts (s .classes) t (ClipNo (s .classes) played) → Clipped s t played (replyOf 6 s) t
+        SomeContradicts (s .classes) t (ClipNo (s .classes) played) → Owed (clip s t played) (refusal 6 s, t)
     clip-contradicted c =
-        record {
-          replies =
-              replies-refused (first-stands (clipRefusals s t played) st (inr (inside, inl (c, refl)))) (λ z. omega arith);
-        }
+        owed-refused (clip s t played) (λ k. refl)
+        (first-stands (clipRefusals s t played) st (inr (inside, inl (c, refl)))) (λ z. omega arith)
 
     -- accepted: the pairs of a member and a non-member are marked no
     pub clip-taken :
         {others : List Bool} {t′ : List ℕ} → ¬ SomeContradicts (s .classes) t (ClipNo (s .classes) played)
         → FlagsOf (s .classes) (λ x. ¬ Flagged played x) others
-        → Spread (s .classes) (λ a b. Flagged played a × Flagged others b) 2 t t′ → Clipped s t played (replyOf 0 s) t′
+        → Spread (s .classes) (λ a b. Flagged played a × Flagged others b) 2 t t′ → Owed (clip s t played) (accepted s, t′)
     clip-taken {others} {t′} fine flags h =
-        record {
-          replies =
-              record {
-                number = first-stands (clipRefusals s t played) st (inr (inside, inr (fine, refl)));
-                place = refl;
-                refused = λ z. absurd (z refl);
-                session = λ _. refl;
-                marks = λ _. clip-step (st .sound) fine (λ x y hx hy. settled x y hx hy (h .each x y hx hy));
-                rest = λ _. h .rest;
-              };
-        }
+        owed-done (clip s t played) (first-stands (clipRefusals s t played) st (inr (inside, inr (fine, refl)))) refl
+        (record {
+          reply = refl;
+          marks = clip-step (st .sound) fine (λ x y hx hy. settled x y hx hy (h .each x y hx hy));
+          rest = h .rest;
+        })
       where
         n : ℕ
         n = s .classes

@@ -6,7 +6,7 @@ use mathlib.Core.Bool.{Bool}
 use mathlib.Core.List.{List}
 use Prim.Native.Nat.{ℕ, _<_}
 use Rattle.order.specs.Tables.{mark}
-use Rattle.promise.specs.Flags.{Flagged}
+use Rattle.promise.specs.Clips.{Flagged}
 
 -- a is marked as under members only
 pub record UnderMembers (n : ℕ) (t : List ℕ) (played : List Bool) (a : ℕ) : Type 0 where

@@ -4,7 +4,7 @@ ghost use mathlib.Core.Path.{_≡_};
 ghost use mathlib.Core.Bool.{false};
 ghost use Prim.Native.Nat.{_≤_};
 ghost use lib.ListN.{getD, length};
-ghost use Rattle.promise.specs.Flags.{flagsOf};
+ghost use Rattle.promise.specs.Clips.{flagsOf};
 ghost use Rattle.clips.specs.Seen.{SameFlags};
 
 // The flag of a class; where there is none it is not set.

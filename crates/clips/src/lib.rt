@@ -19,14 +19,15 @@ use session::refused;
 ghost use mathlib.Core.List.{[]};
 ghost use Rattle.order.specs.Refusals.{First};
 ghost use Rattle.promise.specs.Refusals.{standing};
-ghost use Rattle.promise.specs.Clips.{Clipped, ClippedByBytes};
+ghost use Rattle.promise.specs.Calls.{Owed};
+ghost use Rattle.promise.specs.Clips.{clip, clipBytes};
 
 // A clip is taken in by a session and a table for which none of the refusals 1 to 4 is due. Whether one of its noes contradicts is known
 // before the first byte changes. Where none does, members are under members only: the noes settle the pairs of a member and a non-member
 // and no others, and one pass marks them.
-fn take_standing(session: Session, table: &mut [u8], played: &[bool; MOST_CLASSES]) -> Reply
+fn take_clip(session: Session, table: &mut [u8], played: &[bool; MOST_CLASSES]) -> Reply
     requires { ⌜ First (standing session (now table) []) 0 ⌝ }
-    ensures { λ r. ⌜ Clipped session (now (table .entry)) (now (played .entry)) r (now (table .exit)) ⌝ }
+    ensures { λ r. ⌜ Owed (clip session (now (table .entry)) (now (played .entry))) (r, now (table .exit)) ⌝ }
 {
     let n = session.classes;
     let below = none_beyond(n, played);
@@ -43,19 +44,19 @@ fn take_standing(session: Session, table: &mut [u8], played: &[bool; MOST_CLASSE
 }
 
 // A clip is handed over: no class that played it is under one that did not. It never counts as a test.
-pub fn clip(session: Session, table: &mut [u8], clip: Clip) -> Reply
-    ensures { λ r. ⌜ Clipped session (now (table .entry)) (clip .played) r (now (table .exit)) ⌝ }
+pub fn clip(session: Session, table: &mut [u8], trial: Clip) -> Reply
+    ensures { λ r. ⌜ Owed (clip session (now (table .entry)) (trial .played)) (r, now (table .exit)) ⌝ }
 {
     let number = standing::first_refusal(session, &*table);
     if number != 0 {
         return refused(number, session);
     }
-    take_standing(session, &mut *table, &clip.played)
+    take_clip(session, &mut *table, &trial.played)
 }
 
 // The same with a byte for each flag, from class 0 on: set where it is not 0. Every class must have one, and at most 128 may be there.
 pub fn clip_bytes(session: Session, table: &mut [u8], played: &[u8]) -> Reply
-    ensures { λ r. ⌜ ClippedByBytes session (now (table .entry)) (now (played .entry)) r (now (table .exit)) ⌝ }
+    ensures { λ r. ⌜ Owed (clipBytes session (now (table .entry)) (now (played .entry))) (r, now (table .exit)) ⌝ }
 {
     let number = standing::first_refusal(session, &*table);
     if number != 0 {
@@ -68,5 +69,5 @@ pub fn clip_bytes(session: Session, table: &mut [u8], played: &[u8]) -> Reply
         return refused(NO_SUCH_CLASS, session);
     }
     let flags = flags_of(played);
-    take_standing(session, &mut *table, &flags)
+    take_clip(session, &mut *table, &flags)
 }

@@ -7,7 +7,7 @@ ghost use mathlib.Core.Logic.{_↔_};
 ghost use mathlib.Core.Bool.{true};
 ghost use Prim.Native.Nat.{_≤_, _<_};
 ghost use Rattle.order.specs.Tables.{SomeContradicts};
-ghost use Rattle.promise.specs.Flags.{Flagged};
+ghost use Rattle.promise.specs.Clips.{Flagged};
 ghost use Rattle.promise.specs.Clips.{ClipNo, MemberBeyond};
 ghost use Rattle.marks.specs.Shape.{Shape};
 ghost use Rattle.passes.specs.Spread.{FlagsOf};

@@ -4,8 +4,8 @@ use mathlib.Core.Path.{_≡_}
 use mathlib.Core.Bool.{true, false}
 use Rattle.promise.specs.declared.Question.{Question}
 use Rattle.promise.specs.declared.Question.the-variants.{Ask, Done, Refused}
-use Rattle.promise.specs.declared.Wrote.{Wrote}
-use Rattle.promise.specs.declared.Wrote.the-variants.{Count}
+use Rattle.promise.specs.declared.Counted.{Counted}
+use Rattle.promise.specs.declared.Counted.the-variants.{Count}
 use Rattle.dawnhangra.specs.declared.c.CrossedQuestion.{CrossedQuestion}
 use Rattle.dawnhangra.specs.declared.c.CrossedCount.{CrossedCount}
 
@@ -17,9 +17,9 @@ questionFor (Refused number place) =
     record { number = number; place = place; asks = false; lower = 0; upper = 0 }
 
 -- the count that C gets
-abbrev pub countFor : Wrote → CrossedCount
+abbrev pub countFor : Counted → CrossedCount
 countFor (Count c) = record { number = 0; place = 0; count = c }
-countFor (Wrote.Refused number place) = record { number = number; place = place; count = 0 }
+countFor (Counted.Refused number place) = record { number = number; place = place; count = 0 }
 
 -- r is the question that C gets from a call that gives what Call has
 pub record SameQuestion (Call : Question → Type 0) (r : CrossedQuestion) : Type 0 where
@@ -28,7 +28,7 @@ pub record SameQuestion (Call : Question → Type 0) (r : CrossedQuestion) : Typ
   pub crossed : r ≡ questionFor question
 
 -- r is the count that C gets from a call that gives what Call has
-pub record SameCount (Call : Wrote → Type 0) (r : CrossedCount) : Type 0 where
-  pub wrote : Wrote
+pub record SameCount (Call : Counted → Type 0) (r : CrossedCount) : Type 0 where
+  pub wrote : Counted
   pub call : Call wrote
   pub crossed : r ≡ countFor wrote

@@ -1,8 +1,8 @@
 // The calls for C: a buffer is a pointer and a length, and the answers that are enums cross as structs.
+use promise::Counted;
 use promise::Question;
 use promise::Reply;
 use promise::Session;
-use promise::Wrote;
 ghost use mathlib.Core.Path.{_≡_};
 ghost use Rattle.promise.specs.Fresh.{Freshened};
 ghost use Rattle.promise.specs.Tell.{Told, Answered};
@@ -64,16 +64,16 @@ fn crossed_question(question: Question) -> CrossedQuestion
 }
 
 // A count as C gets it.
-fn crossed_count(wrote: Wrote) -> CrossedCount
+fn crossed_count(wrote: Counted) -> CrossedCount
     ensures { λ r. ⌜ r ≡ countFor wrote ⌝ }
 {
     match wrote {
-        Wrote::Count(count) => CrossedCount {
+        Counted::Count(count) => CrossedCount {
             number: 0,
             place: 0,
             count: count,
         },
-        Wrote::Refused { number, place } => CrossedCount {
+        Counted::Refused { number, place } => CrossedCount {
             number: number,
             place: place,
             count: 0,

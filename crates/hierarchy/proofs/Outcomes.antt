@@ -12,14 +12,14 @@ use Rattle.order.specs.Pairs.{bytesOf}
 use Rattle.order.specs.Refusals.{First}
 use Rattle.order.proofs.Pairs.{length-bytes}
 use Rattle.promise.specs.declared.Session.{Session}
-use Rattle.promise.specs.declared.Wrote.{Wrote}
-use Rattle.promise.specs.declared.Wrote.the-variants.{Count, Refused}
+use Rattle.promise.specs.declared.Counted.{Counted}
+use Rattle.promise.specs.declared.Counted.the-variants.{Count, Refused}
 use Rattle.promise.specs.Refusals.{standing}
-use Rattle.promise.specs.Buffers.{over, TooShort}
+use Rattle.promise.specs.Counts.{over, TooShort}
 use Rattle.promise.specs.Hierarchy.{Under, HeadOf, HeadsOf, StepBytes, hierarchyRefusals, HierarchyWritten}
 use Rattle.promise.specs.Ladder.{LadderOf, ladderRefusals, LadderWritten}
 use Rattle.promise.proofs.Standing.{Stands, standing-refused, first-stands}
-use Rattle.promise.proofs.Buffers.{writes-refused}
+use Rattle.promise.proofs.Counts.{writes-refused}
 use Rattle.promise.proofs.Hierarchy.{head-head, heads-there, step-bytes-unique}
 use Rattle.promise.proofs.Ladder.{number-most, to-go, through, ladder-unique}
 use Rattle.promise.proofs.Triangles.{steps-few}
@@ -154,7 +154,7 @@ module _ (s : Session) (t heads steps : List ℕ) where
       hierarchy-refused (first-stands (hierarchyRefusals s t heads steps) st (inl (omega arith, refl))) (λ z. omega arith)
 
   pub hierarchy-left :
-      {r : Wrote} {heads′ steps′ : List ℕ} → Stands s t → opens (s .classes) t ≡ 0
+      {r : Counted} {heads′ steps′ : List ℕ} → Stands s t → opens (s .classes) t ≡ 0
       → HierarchyLeft (s .classes) t heads steps r heads′ steps′ → HierarchyWritten s t heads steps r heads′ steps′
   hierarchy-left st e h =
       record {
@@ -191,7 +191,7 @@ module _ (s : Session) (t : List ℕ) (a b : ℕ) (out : List ℕ) where
       ladder-none u = ladder-own st (inr (below, inr (λ z. omega arith, inl (u, refl)))) (λ z. omega arith)
 
       pub ladder-left :
-          {r : Wrote} {out′ : List ℕ} → Under (s .classes) t a b → LadderLeft (s .classes) t a b out r out′
+          {r : Counted} {out′ : List ℕ} → Under (s .classes) t a b → LadderLeft (s .classes) t a b out r out′
           → LadderWritten s t a b out r out′
       ladder-left u h =
           record {

@@ -1,10 +1,10 @@
 // Groups and direct steps.
 use marks::count_open;
+use promise::Counted;
 use promise::MOST_CLASSES;
 use promise::NO_ROOM;
 use promise::STILL_OPEN;
 use promise::Session;
-use promise::Wrote;
 use standing::first_refusal;
 use standing::refused;
 use steps::find_heads;
@@ -18,7 +18,7 @@ ghost use Rattle.hierarchy.specs.Left.{HierarchyLeft};
 const MOST_STEPS: usize = 8192;
 
 // The heads and the direct steps, where only 8 may still be due. Both are worked out before any byte is written.
-fn write_hierarchy(n: usize, table: &[u8], heads: &mut [u8], steps: &mut [u8]) -> Wrote
+fn write_hierarchy(n: usize, table: &[u8], heads: &mut [u8], steps: &mut [u8]) -> Counted
     requires { ⌜ SoundTable n (now table) ⌝ }
     ensures { λ r. ⌜ HierarchyLeft n (now (table .entry)) (now (heads .entry)) (now (steps .entry)) r
         (now (heads .exit)) (now (steps .exit)) ⌝ }
@@ -35,12 +35,12 @@ fn write_hierarchy(n: usize, table: &[u8], heads: &mut [u8], steps: &mut [u8]) -
     }
     write_front(n, &found[..], heads);
     write_front(2 * count, &listed[..], steps);
-    Wrote::Count(count)
+    Counted::Count(count)
 }
 
 // Writes the head of each class, a byte each, and the direct steps, two bytes each, and gives the count of steps.
 // Refuses with 1 to 4, with 7 if a pair is open, and with 8 if either buffer is too short; then no byte is written.
-pub fn hierarchy(session: Session, table: &[u8], heads: &mut [u8], steps: &mut [u8]) -> Wrote
+pub fn hierarchy(session: Session, table: &[u8], heads: &mut [u8], steps: &mut [u8]) -> Counted
     ensures { λ r. ⌜ HierarchyWritten session (now (table .entry)) (now (heads .entry)) (now (steps .entry)) r
         (now (heads .exit)) (now (steps .exit)) ⌝ }
 {

@@ -2,13 +2,13 @@
 use crate::rungs::climb;
 use marks::count_open;
 use marks::under;
+use promise::Counted;
 use promise::MOST_CLASSES;
 use promise::NO_LADDER;
 use promise::NO_ROOM;
 use promise::NO_SUCH_CLASS;
 use promise::STILL_OPEN;
 use promise::Session;
-use promise::Wrote;
 use standing::first_refusal;
 use standing::refused;
 use steps::find_heads;
@@ -16,7 +16,7 @@ ghost use Rattle.promise.specs.Ladder.{LadderWritten};
 ghost use Rattle.hierarchy.specs.Left.{HasLadder, LadderLeft};
 
 // The ladder from a to b, where only 8 may still be due.
-fn write_ladder(n: usize, table: &[u8], a: usize, b: usize, rungs: &mut [u8]) -> Wrote
+fn write_ladder(n: usize, table: &[u8], a: usize, b: usize, rungs: &mut [u8]) -> Counted
     requires { ⌜ HasLadder n (now table) a b ⌝ }
     ensures { λ r. ⌜ LadderLeft n (now (table .entry)) a b (now (rungs .entry)) r (now (rungs .exit)) ⌝ }
 {
@@ -27,13 +27,13 @@ fn write_ladder(n: usize, table: &[u8], a: usize, b: usize, rungs: &mut [u8]) ->
     if rungs.len() < count {
         return refused(NO_ROOM);
     }
-    Wrote::Count(count)
+    Counted::Count(count)
 }
 
 // Writes the ladder from a to b, a byte a rung, and gives the count of rungs. Refuses with 1 to 4, with 5 if a or b is
 // no class, with 7 if a pair is open, with 9 if a is not under b, and with 8 if the buffer is too short; then no byte
 // is written.
-pub fn ladder(session: Session, table: &[u8], a: usize, b: usize, rungs: &mut [u8]) -> Wrote
+pub fn ladder(session: Session, table: &[u8], a: usize, b: usize, rungs: &mut [u8]) -> Counted
     ensures { λ r. ⌜ LadderWritten session (now (table .entry)) a b (now (rungs .entry)) r (now (rungs .exit)) ⌝ }
 {
     let number = first_refusal(session, table);

@@ -15,10 +15,10 @@ use Rattle.promise.specs.declared.Session.{Session}
 use Rattle.promise.specs.declared.Reply.{Reply}
 use Rattle.promise.specs.declared.Question.{Question}
 use Rattle.promise.specs.declared.Question.the-variants.{Ask, Done, Refused}
-use Rattle.promise.specs.declared.Wrote.{Wrote}
-use Rattle.promise.specs.declared.Wrote.the-variants.{Count}
+use Rattle.promise.specs.declared.Counted.{Counted}
+use Rattle.promise.specs.declared.Counted.the-variants.{Count}
 use Rattle.promise.specs.Refusals.{standing}
-use Rattle.promise.specs.Buffers.{over}
+use Rattle.promise.specs.Counts.{over}
 use Rattle.promise.specs.Next.{FirstOpen, Asked}
 use Rattle.promise.specs.Hierarchy.{hierarchyRefusals, HierarchyWritten}
 use Rattle.promise.proofs.Standing.{Stands, standing-passed, stands-first}
@@ -79,9 +79,9 @@ module _ {s : Session} {t heads steps text : List ℕ} {at : ℕ} (ready : Settl
         min-le-left (s .classes) (length heads′),
       )
 
-  module _ {w : Wrote} {heads′ steps′ : List ℕ} (h : HierarchyWritten s t heads steps w heads′ steps′) where
+  module _ {w : Counted} {heads′ steps′ : List ℕ} (h : HierarchyWritten s t heads steps w heads′ steps′) where
     -- where no pair is open and there is room hierarchy refuses nothing
-    pub never-refused-here : {number place : ℕ} → w ≡ Wrote.Refused number place → ⊥
+    pub never-refused-here : {number place : ℕ} → w ≡ Counted.Refused number place → ⊥
     never-refused-here e =
         let r = rw e at h in
         go (hierarchy-room (ready .heads-room) (ready .steps-room) r) (r .buffers .0)

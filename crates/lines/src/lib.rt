@@ -6,11 +6,11 @@ use hierarchy::hierarchy;
 use listing::put_classes;
 use listing::put_steps;
 use marks::count_open;
+use promise::Counted;
 use promise::Question;
 use promise::Reply;
 use promise::Session;
 use promise::TOO_LONG;
-use promise::Wrote;
 use session::next;
 use text::put_counts;
 use text::put_line;
@@ -64,11 +64,11 @@ fn put_settled(
 {
     let wrote = hierarchy(session, table, &mut *heads, &mut *steps);
     match wrote {
-        Wrote::Count(count) => {
+        Counted::Count(count) => {
             let behind = put_classes(session.classes, &*heads, &mut *text, at);
             put_steps(count, &*steps, text, behind)
         }
-        Wrote::Refused {
+        Counted::Refused {
             number: _,
             place: _,
         } => at,

@@ -9,8 +9,8 @@ use lib.ListN.{length, set, length-append}
 use Rattle.order.specs.Pairs.{Pair, Lists, bytesOf}
 use Rattle.order.proofs.Pairs.{pairsOf, pairsBefore, before-none, before-hit, before-miss, before-row, before-all, pairs-listed, bytes-append, length-bytes}
 use Rattle.order.proofs.Counting.{before-length}
-use Rattle.promise.specs.Buffers.{over}
-use Rattle.promise.proofs.Buffers.{over-more}
+use Rattle.promise.specs.Counts.{over}
+use Rattle.promise.proofs.Counts.{over-more}
 use Rattle.marks.specs.Noted.{PairPut, Noted}
 
 noted-none : (out : List ℕ) → Noted out [] 0 out

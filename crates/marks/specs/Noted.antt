@@ -5,7 +5,7 @@ use mathlib.Core.List.{List}
 use Prim.Native.Nat.{ℕ, _+_, _≤_, _<_}
 use lib.ListN.{length, set}
 use Rattle.order.specs.Pairs.{Pair, bytesOf}
-use Rattle.promise.specs.Buffers.{over}
+use Rattle.promise.specs.Counts.{over}
 
 -- the pair stands at index at, if there is room for it; if not, no byte is changed
 pub record PairPut (at a b : ℕ) (out out′ : List ℕ) : Type 0 where

@@ -7,7 +7,7 @@ ghost use mathlib.Core.Path.{_≡_};
 ghost use Prim.Native.Nat.{_≤_};
 ghost use lib.ListN.{length};
 ghost use Rattle.order.specs.Tables.{opens};
-ghost use Rattle.promise.specs.Next.{Says, numberOf};
+ghost use Rattle.promise.specs.Next.{Names};
 ghost use Rattle.marks.specs.Shape.{Shape, Cleared, MadeFresh};
 
 // The first k bytes become open marks.
@@ -50,7 +50,7 @@ pub fn count_open(n: usize, table: &[u8]) -> usize
 // The first open pair, rows in rising order and then columns, or that none is open.
 pub fn first_open(n: usize, table: &[u8]) -> Question
     requires { ⌜ Shape n (now table) ⌝ }
-    ensures { λ r. ⌜ (Says n (now (table .entry)) r) × (numberOf r ≡ 0) ⌝ }
+    ensures { λ r. ⌜ Names n (now (table .entry)) r ⌝ }
 {
     let mut found = Question::Done;
     'rows: for a in 0..n {

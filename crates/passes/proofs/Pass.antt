@@ -13,7 +13,7 @@ use Rattle.order.specs.Tables.{mark}
 use Rattle.order.proofs.Bytes.{rest-refl, rest-trans}
 use Rattle.marks.specs.Shape.{Shape, IndexOf}
 use Rattle.marks.proofs.Shape.{stored, rest-store}
-use Rattle.promise.specs.Flags.{Flagged}
+use Rattle.promise.specs.Clips.{Flagged}
 use Rattle.passes.specs.Spread.{FlagsOf, Becomes, Spread}
 
 -- the flags of the classes below k are set as P says

@@ -13,7 +13,7 @@ use Rattle.order.proofs.Sets.{within-with}
 use Rattle.order.proofs.Tables.{sound-table, marks-within, mark-against-settled}
 use Rattle.order.proofs.Exactness.{consistent, contradicts-exact}
 use Rattle.order.proofs.Steps.{YesAfterYes, NoAfterYes, YesAfterNo, NoAfterNo, yes-after-yes-form, no-after-yes-form, yes-after-no-form, no-after-no-form, yes-step, no-step}
-use Rattle.promise.specs.Flags.{Flagged}
+use Rattle.promise.specs.Clips.{Flagged}
 use Rattle.passes.specs.Spread.{FlagsOf, Becomes, Spread}
 use Rattle.passes.specs.Taken.{OpenPair, FactTaken}
 use Rattle.passes.proofs.Pass.{spread-same}

@@ -6,7 +6,7 @@ use mathlib.Core.Bool.{Bool}
 use mathlib.Core.List.{List}
 use Prim.Native.Nat.{ℕ, _<_}
 use Rattle.order.specs.Tables.{mark, SameRest}
-use Rattle.promise.specs.Flags.{Flagged}
+use Rattle.promise.specs.Clips.{Flagged}
 
 -- of the classes below n, those of P are flagged
 pub record FlagsOf (n : ℕ) (P : ℕ → Type 0) (flags : List Bool) : Type 0 where

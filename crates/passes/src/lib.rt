@@ -11,7 +11,7 @@ ghost use mathlib.Core.Path.{_≡_};
 ghost use Prim.Native.Nat.{_<_};
 ghost use Rattle.order.specs.Facts.{under, notUnder};
 ghost use Rattle.marks.specs.Shape.{Shape};
-ghost use Rattle.promise.specs.Flags.{Flagged};
+ghost use Rattle.promise.specs.Clips.{Flagged};
 ghost use Rattle.passes.specs.Spread.{Spread};
 ghost use Rattle.passes.specs.Taken.{OpenPair, FactTaken};
 

@@ -18,7 +18,7 @@ use Rattle.promise.specs.Tell.{Told, Answered}
 use Rattle.promise.specs.Clips.{Clipped}
 use Rattle.promise.specs.Runs.{Call, Makes, SaidBy, Fits, Made, Run, callsOf, Accepted, testsIn}
 use Rattle.session.specs.Facts.{factOn}
-use Rattle.promise.specs.Flags.{Flagged}
+use Rattle.promise.specs.Clips.{Flagged}
 use Rattle.passes.proofs.Pass.{Gathered}
 use Rattle.clips.specs.Seen.{SameFlags}
 use Rattle.promise.proofs.Replies.{reply-same}

@@ -7,7 +7,7 @@ ghost use mathlib.Core.Path.{_≡_};
 ghost use mathlib.Core.Bool.{false};
 ghost use Prim.Native.Nat.{_+_, _*_, _≤_, _<_};
 ghost use lib.ListN.{getD, length, drop};
-ghost use Rattle.promise.specs.Flags.{truthOf};
+ghost use Rattle.promise.specs.Clips.{truthOf};
 ghost use Rattle.promise.specs.Runs.{Makes};
 ghost use Rattle.clips.specs.Seen.{SameFlags};
 ghost use Rattle.replay.specs.Replay.{clipFlags, callAt, Replayed};

@@ -8,11 +8,13 @@ use promise::NO_SUCH_CLASS;
 use promise::Reply;
 use promise::Session;
 ghost use mathlib.Core.List.{[]};
+ghost use Rattle.order.specs.Facts.{factOn};
 ghost use Rattle.order.specs.Refusals.{First};
 ghost use Rattle.promise.specs.Refusals.{standing};
-ghost use Rattle.promise.specs.Tell.{Took};
+ghost use Rattle.promise.specs.Calls.{Owed};
+ghost use Rattle.promise.specs.Tell.{kindOf, tell};
 ghost use Rattle.passes.specs.Taken.{OpenPair, FactTaken};
-ghost use Rattle.session.specs.Facts.{factOn, kindOf, Judged};
+ghost use Rattle.session.specs.Facts.{Judged};
 
 // A fact on an open pair is taken in.
 fn take_in(n: usize, table: &mut [u8], lower: usize, upper: usize, holds: bool)
@@ -37,7 +39,7 @@ fn judge(session: Session, agrees: bool) -> Reply
 }
 
 // A fact is taken in by a session and a table for which none of the refusals 1 to 4 is due.
-pub fn take_standing(
+pub fn take_fact(
     session: Session,
     table: &mut [u8],
     lower: usize,
@@ -46,7 +48,7 @@ pub fn take_standing(
     counts: bool,
 ) -> Reply
     requires { ⌜ First (standing session (now table) []) 0 ⌝ }
-    ensures { λ r. ⌜ Took (kindOf counts) session (now (table .entry)) (factOn lower upper holds) r (now (table .exit)) ⌝ }
+    ensures { λ r. ⌜ Owed (tell (kindOf counts) session (now (table .entry)) (factOn lower upper holds)) (r, now (table .exit)) ⌝ }
 {
     let n = session.classes;
     if n <= lower {
@@ -75,11 +77,11 @@ pub fn take(
     holds: bool,
     counts: bool,
 ) -> Reply
-    ensures { λ r. ⌜ Took (kindOf counts) session (now (table .entry)) (factOn lower upper holds) r (now (table .exit)) ⌝ }
+    ensures { λ r. ⌜ Owed (tell (kindOf counts) session (now (table .entry)) (factOn lower upper holds)) (r, now (table .exit)) ⌝ }
 {
     let number = standing::first_refusal(session, &*table);
     if number != 0 {
         return refused(number, session);
     }
-    take_standing(session, &mut *table, lower, upper, holds, counts)
+    take_fact(session, &mut *table, lower, upper, holds, counts)
 }

@@ -3,22 +3,12 @@ use promise::Reply;
 use promise::Session;
 ghost use mathlib.Core.Path.{_≡_};
 ghost use Prim.Native.Nat.{_<_};
-ghost use Rattle.promise.specs.Sessions.{noSession, started as startedWith, tested as testedBy};
-ghost use Rattle.session.specs.Facts.{stoppedAt, replyOf, countOf};
-
-// The session where no class count was accepted.
-pub fn no_session() -> Session
-    ensures { λ r. ⌜ r ≡ noSession ⌝ }
-{
-    Session {
-        classes: 0,
-        tests: 0,
-    }
-}
+ghost use Rattle.promise.specs.Sessions.{noSession, started, tested, reply, refusal, accepted};
+ghost use Rattle.session.specs.Facts.{countOf};
 
 // The session of a fresh table.
 pub fn started(classes: usize) -> Session
-    ensures { λ r. ⌜ r ≡ startedWith classes ⌝ }
+    ensures { λ r. ⌜ r ≡ started classes ⌝ }
 {
     Session {
         classes: classes,
@@ -26,10 +16,17 @@ pub fn started(classes: usize) -> Session
     }
 }
 
+// The session where no class count was accepted.
+pub fn no_session() -> Session
+    ensures { λ r. ⌜ r ≡ noSession ⌝ }
+{
+    started(0)
+}
+
 // One test more where it counts.
 pub fn tested(session: Session, counts: bool) -> Session
     requires { ⌜ session .tests < 16384 ⌝ }
-    ensures { λ r. ⌜ r ≡ testedBy (countOf counts) session ⌝ }
+    ensures { λ r. ⌜ r ≡ tested (countOf counts) session ⌝ }
 {
     if counts {
         return Session {
@@ -42,7 +39,7 @@ pub fn tested(session: Session, counts: bool) -> Session
 
 // A refusal with its place.
 pub fn stopped(number: u8, place: usize, session: Session) -> Reply
-    ensures { λ r. ⌜ r ≡ stoppedAt number place session ⌝ }
+    ensures { λ r. ⌜ r ≡ reply number place session ⌝ }
 {
     Reply {
         number: number,
@@ -53,14 +50,14 @@ pub fn stopped(number: u8, place: usize, session: Session) -> Reply
 
 // A refusal outside books.
 pub fn refused(number: u8, session: Session) -> Reply
-    ensures { λ r. ⌜ r ≡ replyOf number session ⌝ }
+    ensures { λ r. ⌜ r ≡ refusal number session ⌝ }
 {
     stopped(number, 0, session)
 }
 
 // An accepted call.
 pub fn accepted(session: Session) -> Reply
-    ensures { λ r. ⌜ r ≡ replyOf 0 session ⌝ }
+    ensures { λ r. ⌜ r ≡ accepted session ⌝ }
 {
     refused(0, session)
 }

@@ -3,17 +3,17 @@ mod sound;
 
 use marks::count_open;
 use promise::BAD_COUNT;
+use promise::Counted;
 use promise::MOST_CLASSES;
 use promise::NOT_SOUND;
 use promise::OVERCOUNTED;
 use promise::SHORT_TABLE;
 use promise::Session;
-use promise::Wrote;
 use sound::is_sound;
 ghost use mathlib.Core.Path.{_≡_};
 ghost use mathlib.Core.List.{[]};
 ghost use Rattle.order.specs.Refusals.{First};
-ghost use Rattle.promise.specs.declared.Wrote.the-variants.{Refused};
+ghost use Rattle.promise.specs.declared.Counted.the-variants.{Refused};
 ghost use Rattle.promise.specs.Refusals.{standing};
 
 // The first of the refusals 1 to 4 that is due, 0 if none is.
@@ -47,11 +47,11 @@ pub fn first_refusal(session: Session, table: &[u8]) -> u8
     0
 }
 
-// A call that writes to a buffer is refused, outside books, where the place is 0.
-pub fn refused(number: u8) -> Wrote
+// A call that counts is refused, outside books, where the place is 0.
+pub fn refused_count(number: u8) -> Counted
     ensures { λ r. ⌜ r ≡ Refused number 0 ⌝ }
 {
-    Wrote::Refused {
+    Counted::Refused {
         number: number,
         place: 0,
     }

@@ -5,7 +5,7 @@ ghost use mathlib.Core.Logic.{_↔_};
 ghost use mathlib.Core.Bool.{true};
 ghost use Prim.Native.Nat.{_<_, _≤_};
 ghost use lib.ListN.{length, getD, take};
-ghost use Rattle.promise.specs.Buffers.{over};
+ghost use Rattle.promise.specs.Counts.{over};
 ghost use Rattle.promise.specs.Hierarchy.{Equal, HeadOf};
 ghost use Rattle.marks.specs.Shape.{Shape};
 ghost use Rattle.steps.specs.HeadsFound.{SoundTable, HeadsFound};

@@ -1,6 +1,6 @@
 // What the calls give, as the numbers of their lines.
+use promise::Counted;
 use promise::Question;
-use promise::Wrote;
 
 // What next gives: a refusal, a pair that it asks about, or neither.
 pub struct Asked {
@@ -44,14 +44,14 @@ pub fn asked_by(question: Question) -> Asked {
     }
 }
 
-pub fn counted_by(wrote: Wrote) -> Counted {
+pub fn counted_by(wrote: Counted) -> Counted {
     match wrote {
-        Wrote::Count(count) => Counted {
+        Counted::Count(count) => Counted {
             number: 0,
             place: 0,
             count: count,
         },
-        Wrote::Refused { number, place } => Counted {
+        Counted::Refused { number, place } => Counted {
             number: number,
             place: place,
             count: 0,

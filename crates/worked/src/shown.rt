@@ -1,9 +1,9 @@
 // What a call gave, in words: its reply, how many marks are open, what next asks, and the marks row by row; or a count
 // and the bytes of a buffer.
 use libc::STDOUT_FILENO;
+use promise::Counted;
 use promise::Question;
 use promise::Reply;
-use promise::Wrote;
 
 pub fn text(words: &[u8]) {
     io::write_all(STDOUT_FILENO, words);
@@ -31,11 +31,11 @@ fn refusal(why: u8, place: usize) {
 }
 
 // What hierarchy, ladder and write give, behind the call.
-pub fn wrote(call: &[u8], given: Wrote) {
+pub fn wrote(call: &[u8], given: Counted) {
     text(call);
     match given {
-        Wrote::Count(count) => labelled(b" count ", count),
-        Wrote::Refused { number: why, place } => refusal(why, place),
+        Counted::Count(count) => labelled(b" count ", count),
+        Counted::Refused { number: why, place } => refusal(why, place),
     }
 }
 

@@ -1,11 +1,13 @@
 -- `clips::clip` meets its contract.
 -- Assumes nothing.
-use mathlib.Core.Path.{subst}
+use mathlib.Core.Path.{refl, subst}
 use mathlib.Core.List.{[]}
 use Prim.Native.Nat.{ℕ}
 use Rattle.order.specs.Refusals.{First}
 use Rattle.promise.specs.Refusals.{standing}
-use Rattle.promise.proofs.Clips.{clip-not-standing}
+use Rattle.promise.specs.Clips.{clipRefusals, clip}
+use Rattle.promise.proofs.Standing.{standing-refused}
+use Rattle.promise.proofs.Calls.{owed-refused}
 use borrow.Author.Needs.{needs}
 use Rattle.clips.proofs.clip.Statement.{statement}
 use Rattle.clips.proofs.clip.Tie as tie
@@ -22,10 +24,13 @@ same-length c = search needs
 returns : tie.Need-returns
 returns c =
     let tried = c .before in
-    rw (c .refused .ensures) (clip-not-standing (tried .before .first-refusal .ensures) (tried .if1 .taken))
+    let a = tried .before .before .before .before .args in
+    rw (c .refused .ensures)
+    (owed-refused (clip _ _ _) (λ k. refl)
+    (standing-refused (clipRefusals (a .session) _ _) _ _ _ (tried .before .first-refusal .ensures) (tried .if1 .taken)) (tried .if1 .taken))
 
-take-standing-requires : tie.Need-take-standing-requires
-take-standing-requires c κs =
+take-clip-requires : tie.Need-take-clip-requires
+take-clip-requires c κs =
     let tried = c .before .before .before in
     let start = tried .before .before .before .before in
     subst (λ (k : ℕ). First (standing (start .args .session) (start .args .table .now) []) k) (tried .if1 .left)
@@ -45,6 +50,6 @@ clip-spec =
     refused-requires
     same-length
     returns
-    take-standing-requires
+    take-clip-requires
     same-length-2
     returns-2)

@@ -1,6 +1,6 @@
 -- `clips::clip_bytes` meets its contract: of the flags only the members matter.
 -- Assumes nothing.
-use mathlib.Core.Path.{subst}
+use mathlib.Core.Path.{refl, subst}
 use mathlib.Core.Logic.{Iff·symm}
 use mathlib.Core.List.{[]}
 use Prim.Native.Nat.{ℕ}
@@ -8,8 +8,10 @@ use native.Mathlib.Omega.{arith}
 use borrow.Author.Needs.{needs}
 use Rattle.order.specs.Refusals.{First}
 use Rattle.promise.specs.Refusals.{standing}
-use Rattle.promise.proofs.Standing.{Stands, stood}
-use Rattle.promise.proofs.Clips.{clip-same-members, bytes-fit, bytes-misfit, bytes-not-standing}
+use Rattle.promise.specs.Clips.{bytesRefusals, clipBytes}
+use Rattle.promise.proofs.Standing.{Stands, stood, standing-refused}
+use Rattle.promise.proofs.Calls.{owed-refused}
+use Rattle.promise.proofs.Clips.{clip-same-members, bytes-fit, bytes-misfit}
 use Rattle.clips.proofs.clip_bytes.Statement.{statement}
 use Rattle.clips.proofs.clip_bytes.Tie as tie
 
@@ -29,7 +31,11 @@ same-length c = search needs
 returns : tie.Need-returns
 returns c =
     let tried = c .before in
-    rw (c .refused .ensures) (bytes-not-standing (tried .before .first-refusal .ensures) (tried .if1 .taken))
+    let a = tried .before .before .before .before .before .args in
+    let own = bytesRefusals (a .session) (a .table .now) (a .played .now) in
+    rw (c .refused .ensures)
+    (owed-refused (clipBytes (a .session) (a .table .now) (a .played .now)) (λ k. refl)
+    (standing-refused own _ _ _ (tried .before .first-refusal .ensures) (tried .if1 .taken)) (tried .if1 .taken))
 
 refused-requires-2 : tie.Need-refused-requires-2
 refused-requires-2 c κs = search needs
@@ -40,7 +46,7 @@ same-length-2 c = search needs
 returns-2 : tie.Need-returns-2
 returns-2 c =
     let short = c .before in
-    rw (c .refused2 .ensures) (bytes-misfit (stands (short .before .before)) (λ fit. omega (arith, short .if2 .taken, fit .enough)))
+    rw (c .refused2 .ensures) (bytes-misfit _ _ _ (stands (short .before .before)) (λ fit. omega (arith, short .if2 .taken, fit .enough)))
 
 refused-requires-3 : tie.Need-refused-requires-3
 refused-requires-3 c κs = search needs
@@ -52,13 +58,13 @@ returns-3 : tie.Need-returns-3
 returns-3 c =
     let long = c .before in
     rw (c .refused3 .ensures)
-    (bytes-misfit (stands (long .before .before .before)) (λ fit. omega (arith, long .if3 .taken, fit .few)))
+    (bytes-misfit _ _ _ (stands (long .before .before .before)) (λ fit. omega (arith, long .if3 .taken, fit .few)))
 
 flags-of-requires : tie.Need-flags-of-requires
 flags-of-requires c κs = search needs
 
-take-standing-requires : tie.Need-take-standing-requires
-take-standing-requires c κs =
+take-clip-requires : tie.Need-take-clip-requires
+take-clip-requires c κs =
     let tried = c .before .before .before .before .before .before in
     let start = tried .before .before .before .before .before in
     subst (λ (k : ℕ). First (standing (start .args .session) (start .args .table .now) []) k) (tried .if1 .left)
@@ -73,8 +79,8 @@ returns-4 c =
     let flagged = taken .before .before .before in
     let fitted = flagged .before in
     let st = stands (fitted .before .before .before) in
-    bytes-fit st (record { enough = fitted .before .if2 .left; few = fitted .if3 .left })
-    (clip-same-members _ _ (λ a. Iff·symm (flagged .flags-of .ensures .at a)) (taken .take-standing .ensures))
+    bytes-fit _ _ _ st (record { enough = fitted .before .if2 .left; few = fitted .if3 .left })
+    (clip-same-members _ _ (λ a. Iff·symm (flagged .flags-of .ensures .at a)) (taken .take-clip .ensures))
 
 pub clip-bytes-spec : {M : Type 1} → statement M
 clip-bytes-spec =
@@ -91,6 +97,6 @@ clip-bytes-spec =
     same-length-3
     returns-3
     flags-of-requires
-    take-standing-requires
+    take-clip-requires
     same-length-4
     returns-4)

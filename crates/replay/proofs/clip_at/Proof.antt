@@ -4,7 +4,7 @@ use mathlib.Core.Path.{refl}
 use Prim.Native.Nat.{_-_, _*_}
 use native.Mathlib.Omega.{arith}
 use lib.ListN.{drop}
-use Rattle.promise.specs.Flags.{Flagged}
+use Rattle.promise.specs.Clips.{Flagged}
 use Rattle.passes.proofs.Pass.{Gathered, gather-start, gather-next}
 use Rattle.replay.proofs.Replays.{clip-gathered}
 use Rattle.replay.proofs.clip_at.Statement.{statement}

@@ -4,7 +4,7 @@ use mathlib.Core.Path.{_≡_, refl}
 use mathlib.Core.Bool.{not}
 use Prim.Native.Nat.{ℕ, zero, suc}
 use lib.Dec.{eqb, eqb·suc-zero}
-use Rattle.promise.specs.Flags.{truthOf}
+use Rattle.promise.specs.Clips.{truthOf}
 use Rattle.replay.proofs.truth.Statement.{statement}
 use Rattle.replay.proofs.truth.Tie as tie
 

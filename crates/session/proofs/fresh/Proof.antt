@@ -3,7 +3,8 @@
 use mathlib.Core.Path.{refl}
 use mathlib.Core.Logic.{inl, inr, ⊎-elim}
 use native.Mathlib.Omega.{arith}
-use Rattle.promise.proofs.Replies.{replies-refused}
+use Rattle.promise.specs.Tell.{fresh}
+use Rattle.promise.proofs.Calls.{owed-refused, owed-done}
 use Rattle.marks.proofs.Shape.{square}
 use borrow.Author.Needs.{needs}
 use Rattle.session.proofs.fresh.Statement.{statement}
@@ -18,7 +19,7 @@ refused-requires c κs = search needs
 returns : tie.Need-returns
 returns c =
     rw (c .refused .ensures, c .before .no-session .ensures)
-    (record { replies = replies-refused (inl (inl (c .before .before .if1 .taken), refl)) (λ z. omega arith) })
+    (owed-refused (fresh _ _) (λ k. refl) (inl (inl (c .before .before .if1 .taken), refl)) (λ z. omega arith))
 
 no-session-requires-2 : tie.Need-no-session-requires-2
 no-session-requires-2 c κs = search needs
@@ -29,7 +30,7 @@ refused-requires-2 c κs = search needs
 returns-2 : tie.Need-returns-2
 returns-2 c =
     rw (c .refused2 .ensures, c .before .no-session2 .ensures)
-    (record { replies = replies-refused (inl (inr (c .before .before .if2 .taken), refl)) (λ z. omega arith) })
+    (owed-refused (fresh _ _) (λ k. refl) (inl (inr (c .before .before .if2 .taken), refl)) (λ z. omega arith))
 
 mul-if3 : tie.Need-mul-if3
 mul-if3 c = omega (arith, square _ (c .if2 .left))
@@ -44,12 +45,9 @@ returns-3 : tie.Need-returns-3
 returns-3 c =
     let tried = c .before .before in
     rw (c .refused3 .ensures, c .before .no-session3 .ensures)
-    (record {
-      replies =
-          replies-refused
-          (inr (⊎-elim (tried .before .before .if1 .left) (λ z. omega (arith, tried .before .if2 .left)), inl (tried .if3 .taken, refl)))
-          (λ z. omega arith);
-    })
+    (owed-refused (fresh _ _) (λ k. refl)
+    (inr (⊎-elim (tried .before .before .if1 .left) (λ z. omega (arith, tried .before .if2 .left)), inl (tried .if3 .taken, refl)))
+    (λ z. omega arith))
 
 fresh-marks-requires : tie.Need-fresh-marks-requires
 fresh-marks-requires c κs = search needs
@@ -67,21 +65,17 @@ returns-4 : tie.Need-returns-4
 returns-4 c =
     let passed = c .before .before .before .before .before .before in
     rw (c .accepted .ensures, c .before .started .ensures)
+    (owed-done (fresh _ _)
+    (inr (
+      ⊎-elim (passed .before .before .if1 .left) (λ z. omega (arith, passed .before .if2 .left)),
+      inr (λ z. omega (arith, passed .if3 .left), refl),
+    ))
+    refl
     (record {
-      replies =
-          record {
-            number =
-                inr (
-                  ⊎-elim (passed .before .before .if1 .left) (λ z. omega (arith, passed .before .if2 .left)),
-                  inr (λ z. omega (arith, passed .if3 .left), refl),
-                );
-            place = refl;
-            refused = λ z. absurd (z refl);
-            session = λ _. refl;
-            marks = λ _. c .before .before .before .before .fresh-marks .ensures .marks;
-            rest = λ _. c .before .before .before .before .fresh-marks .ensures .rest;
-          };
-    })
+      reply = refl;
+      marks = c .before .before .before .before .fresh-marks .ensures .marks;
+      rest = c .before .before .before .before .fresh-marks .ensures .rest;
+    }))
 
 pub fresh-spec : {M : Type 1} → statement M
 fresh-spec =

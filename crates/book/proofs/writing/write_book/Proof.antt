@@ -4,7 +4,7 @@ use mathlib.Core.Path.{_≡_, _∙_}
 use mathlib.Core.List.{_++_}
 use Prim.Native.Nat.{_+_, _*_, _≤_}
 use native.Mathlib.Omega.{arith}
-use Rattle.promise.proofs.Buffers.{lent-none}
+use Rattle.promise.proofs.Counts.{lent-none}
 use Rattle.book.specs.Fields.{BookFits}
 use Rattle.book.proofs.Books.{counts-few, book-short, book-fits, book-done}
 use borrow.Author.Needs.{needs}

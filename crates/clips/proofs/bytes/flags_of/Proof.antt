@@ -4,7 +4,7 @@ use mathlib.Core.Path.{refl}
 use Prim.Native.Nat.{_-_}
 use native.Mathlib.Omega.{arith}
 use borrow.Author.Needs.{needs}
-use Rattle.promise.specs.Flags.{Flagged, flagsOf}
+use Rattle.promise.specs.Clips.{Flagged, flagsOf}
 use Rattle.passes.proofs.Pass.{Gathered, gather-start, gather-next}
 use Rattle.clips.proofs.Seen.{flags-length, same-gathered}
 use Rattle.clips.proofs.bytes.flags_of.Statement.{statement}

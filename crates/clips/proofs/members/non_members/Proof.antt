@@ -3,7 +3,7 @@
 use mathlib.Core.Path.{refl}
 use Prim.Native.Nat.{_-_}
 use native.Mathlib.Omega.{arith}
-use Rattle.promise.specs.Flags.{Flagged}
+use Rattle.promise.specs.Clips.{Flagged}
 use Rattle.passes.proofs.Pass.{Gathered, gather-start, gather-next, gather-end}
 use Rattle.clips.proofs.Seen.{turned}
 use Rattle.clips.proofs.members.non_members.Statement.{statement}

@@ -4,7 +4,7 @@ use mathlib.Core.Path.{_≡_, refl}
 use Prim.Native.Nat.{_-_, _<_}
 use native.Mathlib.Omega.{arith}
 use lib.ListN.{length}
-use Rattle.promise.specs.Flags.{Flagged}
+use Rattle.promise.specs.Clips.{Flagged}
 use Rattle.standing.proofs.Clear.{Clear, clear-none, clear-more, clear-all}
 use Rattle.clips.proofs.Seen.{inside-clear, beyond-seen}
 use Rattle.clips.proofs.members.none_beyond.Statement.{statement}

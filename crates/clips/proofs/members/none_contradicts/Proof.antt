@@ -6,7 +6,7 @@ use mathlib.Core.Bool.{false≢true}
 use Prim.Native.Nat.{_-_}
 use native.Mathlib.Omega.{arith}
 use borrow.Author.Needs.{needs}
-use Rattle.promise.specs.Flags.{Flagged}
+use Rattle.promise.specs.Clips.{Flagged}
 use Rattle.marks.proofs.Answers.{granted, denied, never}
 use Rattle.marks.proofs.Upto.{Upto, none, more, all}
 use Rattle.clips.specs.Seen.{UnderMembers}

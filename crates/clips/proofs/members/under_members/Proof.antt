@@ -5,7 +5,7 @@ use Prim.Native.Nat.{_-_}
 use native.Mathlib.Omega.{arith}
 use Rattle.order.specs.Tables.{mark}
 use Rattle.marks.proofs.Shape.{row-below, row-reads}
-use Rattle.promise.specs.Flags.{Flagged}
+use Rattle.promise.specs.Clips.{Flagged}
 use Rattle.standing.proofs.Clear.{Clear, clear-none, clear-more, clear-all}
 use Rattle.clips.proofs.Seen.{closed-clear}
 use Rattle.clips.proofs.members.under_members.Statement.{statement}

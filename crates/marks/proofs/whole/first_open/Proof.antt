@@ -91,20 +91,18 @@ rows-again c =
 returns : tie.Need-returns Inv-loop μ-loop Inv-rows μ-rows
 returns c =
     let i = c .before .rows .inv in
-    rw (i .1) (record { at = λ x y hx hy. i .2 .none x y hx hy (inl (omega arith)) }, refl)
+    rw (i .1) (record { at = λ x y hx hy. i .2 .none x y hx hy (inl (omega arith)) })
 
 returns-2 : tie.Need-returns-2 Inv-loop μ-loop Inv-rows μ-rows
 returns-2 c =
     let l = c .before .before .before .before in
-    let byte = reads (l .before .before .before .before .args .table .now) (c .before .before .index .ensures) in (
-      record {
-        lower-below = omega arith;
-        upper-below = omega arith;
-        is-open = byte ∙ c .if1 .taken;
-        first = l .loop .inv .2 .none;
-      },
-      refl,
-    )
+    let byte = reads (l .before .before .before .before .args .table .now) (c .before .before .index .ensures) in
+    record {
+      lower-below = omega arith;
+      upper-below = omega arith;
+      is-open = byte ∙ c .if1 .taken;
+      first = l .loop .inv .2 .none;
+    }
 
 pub first-open-spec : {M : Type 1} → statement M
 first-open-spec =

@@ -1,14 +1,14 @@
 -- `session::facts::take` meets its contract.
 -- Assumes nothing.
-use mathlib.Core.Path.{subst}
+use mathlib.Core.Path.{refl, subst}
 use mathlib.Core.List.{[]}
 use Prim.Native.Nat.{ℕ}
+use Rattle.order.specs.Facts.{factOn}
 use Rattle.order.specs.Refusals.{First}
 use Rattle.promise.specs.Refusals.{standing}
-use Rattle.promise.specs.Tell.{tellRefusals}
+use Rattle.promise.specs.Tell.{kindOf, tellRefusals, tell}
 use Rattle.promise.proofs.Standing.{standing-refused}
-use Rattle.promise.proofs.Replies.{replies-refused}
-use Rattle.session.specs.Facts.{factOn}
+use Rattle.promise.proofs.Calls.{owed-refused}
 use borrow.Author.Needs.{needs}
 use Rattle.session.proofs.facts.take.Statement.{statement}
 use Rattle.session.proofs.facts.take.Tie as tie
@@ -26,12 +26,15 @@ returns : tie.Need-returns
 returns c =
     let tried = c .before in
     let a = tried .before .before .before .before .args in
-    let own = tellRefusals (a .session) (a .table .now) (factOn (a .lower) (a .upper) (a .holds)) in
+    let f = factOn (a .lower) (a .upper) (a .holds) in
+    let due =
+    standing-refused (tellRefusals (a .session) (a .table .now) f) _ _ _ (tried .before .first-refusal .ensures) (tried .if1 .taken)
+    in
     rw (c .refused .ensures)
-    (record { replies = replies-refused (standing-refused own _ _ _ (tried .before .first-refusal .ensures) (tried .if1 .taken)) (tried .if1 .taken) })
+    (owed-refused (tell (kindOf (a .counts)) (a .session) (a .table .now) f) (λ k. refl) due (tried .if1 .taken))
 
-take-standing-requires : tie.Need-take-standing-requires
-take-standing-requires c κs =
+take-fact-requires : tie.Need-take-fact-requires
+take-fact-requires c κs =
     let start = c .before .before .before .before .before in
     subst (λ (k : ℕ). First (standing (start .args .session) (start .args .table .now) []) k) (c .before .if1 .left)
     (c .before .before .first-refusal .ensures)
@@ -50,6 +53,6 @@ take-spec =
     refused-requires
     same-length
     returns
-    take-standing-requires
+    take-fact-requires
     same-length-2
     returns-2)

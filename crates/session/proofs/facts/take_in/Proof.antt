@@ -2,8 +2,8 @@
 -- Assumes nothing.
 use mathlib.Core.Path.{subst⁻¹}
 use mathlib.Core.Bool.{Bool}
+use Rattle.order.specs.Facts.{factOn}
 use Rattle.passes.specs.Taken.{FactTaken}
-use Rattle.session.specs.Facts.{factOn}
 use borrow.Author.Needs.{needs}
 use Rattle.session.proofs.facts.take_in.Statement.{statement}
 use Rattle.session.proofs.facts.take_in.Tie as tie

@@ -7,8 +7,8 @@ use native.Mathlib.Numerals.{add-one}
 use native.Mathlib.Omega.{arith}
 use lib.ListN.{length, getD, set, take}
 use lib.Seq.{take-suc, length-take-le}
-use Rattle.promise.specs.Buffers.{over}
-use Rattle.promise.proofs.Buffers.{over-fits, over-more}
+use Rattle.promise.specs.Counts.{over}
+use Rattle.promise.proofs.Counts.{over-fits, over-more}
 use Rattle.steps.proofs.heads.write_front.Statement.{statement}
 use Rattle.steps.proofs.heads.write_front.Tie as tie
 

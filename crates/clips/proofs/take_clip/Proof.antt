@@ -1,4 +1,4 @@
--- `clips::take_standing` meets its contract: the two refusals of the call itself, then one pass.
+-- `clips::take_clip` meets its contract: the two refusals of the call itself, then one pass.
 -- Assumes nothing.
 use mathlib.Core.Path.{refl}
 use Rattle.order.proofs.Decide.{stable}
@@ -8,8 +8,8 @@ use Rattle.marks.proofs.Shape.{shaped}
 use Rattle.marks.proofs.Answers.{granted, denied}
 use borrow.Author.Needs.{needs}
 use Rattle.clips.proofs.Taken.{clip-beyond, clip-contradicted, clip-taken}
-use Rattle.clips.proofs.take_standing.Statement.{statement}
-use Rattle.clips.proofs.take_standing.Tie as tie
+use Rattle.clips.proofs.take_clip.Statement.{statement}
+use Rattle.clips.proofs.take_clip.Tie as tie
 
 -- none of the refusals 1 to 4 is due
 stands : (c : tie.Start) → Stands (c .args .session) (c .args .table .now)
@@ -69,8 +69,8 @@ returns-3 c =
     (granted (agreed .if2 .left) (agreed .before .none-contradicts .ensures)) (flagged .non-members .ensures)
     (passed .spread .ensures))
 
-pub take-standing-spec : {M : Type 1} → statement M
-take-standing-spec =
+pub take-clip-spec : {M : Type 1} → statement M
+take-clip-spec =
     tie.close
     (tie.spec
     none-beyond-requires

@@ -1,16 +1,17 @@
--- `session::facts::take_standing` meets its contract: by class numbers, then by the mark.
+-- `session::facts::take_fact` meets its contract: by class numbers, then by the mark.
 -- Assumes nothing.
 use mathlib.Core.Path.{refl, _∙_, ap}
 use mathlib.Core.Logic.{inl, inr}
 use native.Mathlib.Omega.{arith}
+use Rattle.promise.specs.Tell.{kindOf}
 use Rattle.promise.proofs.Standing.{stood}
 use Rattle.marks.specs.Shape.{byteOf}
 use Rattle.marks.proofs.Shape.{square, shaped}
 use Rattle.passes.specs.Taken.{OpenPair}
 use Rattle.session.proofs.Takes.{no-such-class, judged-yes, judged-no, open-taken}
 use borrow.Author.Needs.{needs}
-use Rattle.session.proofs.facts.take_standing.Statement.{statement}
-use Rattle.session.proofs.facts.take_standing.Tie as tie
+use Rattle.session.proofs.facts.take_fact.Statement.{statement}
+use Rattle.session.proofs.facts.take_fact.Tie as tie
 
 refused-requires : tie.Need-refused-requires
 refused-requires c κs = search needs
@@ -18,7 +19,7 @@ refused-requires c κs = search needs
 returns : tie.Need-returns
 returns c =
     let start = c .before .before .before in
-    rw (c .refused .ensures) (no-such-class _ (stood _ _ 0 (start .pre) refl) _ _ _ (inl (c .before .if1 .taken)))
+    rw (c .refused .ensures) (no-such-class (kindOf (start .args .counts)) (stood _ _ 0 (start .pre) refl) _ _ _ (inl (c .before .if1 .taken)))
 
 refused-requires-2 : tie.Need-refused-requires-2
 refused-requires-2 c κs = search needs
@@ -26,7 +27,7 @@ refused-requires-2 c κs = search needs
 returns-2 : tie.Need-returns-2
 returns-2 c =
     let start = c .before .before .before .before in
-    rw (c .refused2 .ensures) (no-such-class _ (stood _ _ 0 (start .pre) refl) _ _ _ (inr (c .before .if2 .taken)))
+    rw (c .refused2 .ensures) (no-such-class (kindOf (start .args .counts)) (stood _ _ 0 (start .pre) refl) _ _ _ (inr (c .before .if2 .taken)))
 
 mark-of-requires : tie.Need-mark-of-requires
 mark-of-requires c κs =
@@ -85,7 +86,7 @@ returns-3 : tie.Need-returns-3
 returns-3 c =
     let known = c .before .before .before in
     let start = known .before .before .before .before .before in
-    judged-yes _ (stood _ _ 0 (start .pre) refl) _ _ (known .before .before .before .if1 .left) (known .before .before .if2 .left) _
+    judged-yes (kindOf (start .args .counts)) (stood _ _ 0 (start .pre) refl) _ _ (known .before .before .before .if1 .left) (known .before .before .if2 .left) _
     (known .mark-of .ensures ∙ ap byteOf (c .before .enum-told .given .1)) (c .judge .ensures)
 
 same-length-2 : tie.Need-same-length-2
@@ -95,7 +96,7 @@ returns-4 : tie.Need-returns-4
 returns-4 c =
     let known = c .before .before .before in
     let start = known .before .before .before .before .before in
-    judged-no _ (stood _ _ 0 (start .pre) refl) _ _ (known .before .before .before .if1 .left) (known .before .before .if2 .left) _
+    judged-no (kindOf (start .args .counts)) (stood _ _ 0 (start .pre) refl) _ _ (known .before .before .before .if1 .left) (known .before .before .if2 .left) _
     (known .mark-of .ensures ∙ ap byteOf (c .before .enum-told2 .given .1)) (c .judge2 .ensures)
 
 same-length-3 : tie.Need-same-length-3
@@ -110,8 +111,8 @@ returns-5 c =
     (open-taken (start .args .counts) (start .args .holds) (start .args .session) (start .args .table .now) _ _ _ (stood _ _ 0 (start .pre) refl)
     (opened open-pair) (taken .take-in .ensures))
 
-pub take-standing-spec : {M : Type 1} → statement M
-take-standing-spec =
+pub take-fact-spec : {M : Type 1} → statement M
+take-fact-spec =
     tie.close
     (tie.spec
     refused-requires
