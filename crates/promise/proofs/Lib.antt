@@ -13,10 +13,14 @@ pub mod Counts
 pub mod Crossing
 pub mod Hierarchy
 pub mod Ladder
-pub mod Book
+pub mod Tags
 pub mod Items
+pub mod Book
 pub mod Read
 pub mod Write
+pub mod Lengths
+pub mod BookSays
+pub mod ReadBack
 pub mod Mantel
 pub mod Triangles
 pub mod Table

@@ -1,5 +1,5 @@
 -- Reading a book: one outcome for each input; what was read is a run from fresh of the facts said, all of them or those before the place;
--- a refusal says where and why; numbers 3 and 4 never come up.
+-- a refusal says where and why, at a place within the book; numbers 3 and 4 never come up.
 -- Assumes nothing.
 use mathlib.Core.Path.{_≡_, refl, sym, _∙_, ap, subst}
 use mathlib.Core.Logic.{_≢_, _⊎_, inl, inr}
@@ -7,20 +7,26 @@ use mathlib.Core.List.{List, [], _∷_}
 use Prim.Native.Nat.{ℕ, suc, _≤_, _<_}
 use native.Mathlib.Decide.{ℕ-discrete, decLt}
 use native.Mathlib.Omega.{arith}
-use lib.ListN.{getD}
+use lib.ListN.{length, getD, drop}
+use Rattle.order.specs.Refusals.{First}
+use Rattle.order.proofs.Refusals.{first-unique, stage as judge}
+use Rattle.promise.specs.declared.Stage.{Stage}
+use Rattle.promise.specs.declared.Stage.the-variants.{Begun}
 use Rattle.promise.specs.declared.Session.{Session}
 use Rattle.promise.specs.declared.Reply.{Reply}
-use Rattle.promise.specs.Sessions.{noSession}
-use Rattle.promise.specs.Tell.{Kind, Took}
-use Rattle.promise.specs.Runs.{Call, Makes, Made, Run, FromFresh}
-use Rattle.promise.specs.Book.{Item, itemsOf}
-use Rattle.promise.specs.Read.{factOf, Ends, Passes, Follows, BookRead}
+use Rattle.promise.specs.Refusals.{badVerdict}
+use Rattle.promise.specs.Sessions.{noSession, reply}
+use Rattle.promise.specs.Calls.{Owed}
+use Rattle.promise.specs.Tell.{Kind, fresh, tell}
+use Rattle.promise.specs.Runs.{Intake, Made, Run, FromFresh}
+use Rattle.promise.specs.Book.{fieldRefusals, Item, itemsOf, factOf, Ends, GoesOn, Follows, BookRead}
 use Rattle.promise.proofs.Standing.{Stands, standing-passed}
-use Rattle.promise.proofs.Replies.{reply}
+use Rattle.promise.proofs.Calls.{changes-kept}
 use Rattle.promise.proofs.Fresh.{fresh-unique, fresh-there, fresh-stands, fresh-numbers}
 use Rattle.promise.proofs.Taking.{leaves-keeps}
 use Rattle.promise.proofs.Tell.{tell-unique, tell-there, tell-leaves, tell-numbers}
-use Rattle.promise.proofs.Book.{FieldAt, SaidAt, Later, Whole, items-whole}
+use Rattle.promise.proofs.Tags.{field-there, field-numbers}
+use Rattle.promise.proofs.Book.{FieldAt, field-within, ends-within, SaidAt, PlacesRise, Later, Counted, Whole, items-whole}
 
 -- one outcome at most
 
@@ -29,30 +35,50 @@ ends-unique :
     → (r ≡ r₂) × (t′ ≡ t₂)
 ends-unique e e₂ = (e .0 ∙ sym (e₂ .0), e .1 ∙ sym (e₂ .1))
 
-passes-unique :
-    (p : ℕ) {q q₂ r r₂ : Reply} {t u t′ t₂ : List ℕ} (L : Session → List ℕ → Reply → List ℕ → Type 0)
-    → (q ≡ q₂) × (t ≡ u) → (L (q .session) t r t′ → L (q .session) t r₂ t₂ → (r ≡ r₂) × (t′ ≡ t₂))
-    → Passes p q t r t′ (L (q .session) t r t′) → Passes p q₂ u r₂ t₂ (L (q₂ .session) u r₂ t₂)
-    → (r ≡ r₂) × (t′ ≡ t₂)
-passes-unique p L e later (inl h) (inl h₂) = ends-unique (h .1) (rw (← e .0, ← e .1) at (h₂ .1))
-passes-unique p L e later (inl h) (inr h₂) = absurd (h .0 (ap (λ (x : Reply). x .number) (e .0) ∙ h₂ .0))
-passes-unique p L e later (inr h) (inl h₂) = absurd (h₂ .0 (sym (ap (λ (x : Reply). x .number) (e .0)) ∙ h .0))
-passes-unique p L e later (inr h) (inr h₂) = later (h .1) (rw (← e .0, ← e .1) at (h₂ .1))
+-- judged with one number
+goes-unique :
+    (k p : ℕ) {s : Session} {t t′ t₂ : List ℕ} {r r₂ : Reply} {L L₂ : Type 0} → (L → L₂ → (r ≡ r₂) × (t′ ≡ t₂))
+    → GoesOn k p s t r t′ L → GoesOn k p s t r₂ t₂ L₂ → (r ≡ r₂) × (t′ ≡ t₂)
+goes-unique k p later (inl h) (inl h₂) = ends-unique (h .1) (h₂ .1)
+goes-unique k p later (inl h) (inr h₂) = absurd (h .0 (h₂ .0))
+goes-unique k p later (inr h) (inl h₂) = absurd (h₂ .0 (h .0))
+goes-unique k p later (inr h) (inr h₂) = later (h .1) (h₂ .1)
+
+-- after a call, which has one outcome
+made-unique :
+    (p : ℕ) {q q₂ r r₂ : Reply} {u u₂ t′ t₂ : List ℕ} (L : Session → List ℕ → Reply → List ℕ → Type 0)
+    → _≡_ {A = Reply × List ℕ} (q, u) (q₂, u₂)
+    → (L (q .session) u r t′ → L (q .session) u r₂ t₂ → (r ≡ r₂) × (t′ ≡ t₂))
+    → GoesOn (q .number) p (q .session) u r t′ (L (q .session) u r t′)
+    → GoesOn (q₂ .number) p (q₂ .session) u₂ r₂ t₂ (L (q₂ .session) u₂ r₂ t₂) → (r ≡ r₂) × (t′ ≡ t₂)
+made-unique p {q} {r₂ = r₂} {u = u} {t₂ = t₂} L e later h h₂ =
+    goes-unique (q .number) p later h
+    (subst
+    (λ (o : Reply × List ℕ). GoesOn (o .0 .number) p (o .0 .session) (o .1) r₂ t₂ (L (o .0 .session) (o .1) r₂ t₂)) (sym e) h₂)
 
 follows-unique :
     (items : List Item) (s : Session) (t : List ℕ) {r r₂ : Reply} {t′ t₂ : List ℕ} → Follows items s t r t′
     → Follows items s t r₂ t₂ → (r ≡ r₂) × (t′ ≡ t₂)
 follows-unique [] s t h h₂ = ends-unique h h₂
-follows-unique (Item.fault p k ∷ items) s t h h₂ = ends-unique h h₂
+follows-unique (Item.field p stage bytes ∷ items) s t {r₂ = r₂} {t₂ = t₂} h h₂ =
+    goes-unique (h .0) p (follows-unique items s t) (h .2)
+    (subst (λ (k : ℕ). GoesOn k p s t r₂ t₂ (Follows items s t r₂ t₂))
+    (first-unique (fieldRefusals stage bytes) (h₂ .0) (h .0) (h₂ .1) (h .1)) (h₂ .2))
 follows-unique (Item.begin p n ∷ items) s t h h₂ =
-    passes-unique p (Follows items) (fresh-unique (h .2) (h₂ .2)) (follows-unique items (h .0 .session) (h .1)) (h .3)
+    made-unique p (Follows items) (fresh-unique (h .2) (h₂ .2)) (follows-unique items (h .0 .session) (h .1)) (h .3)
     (h₂ .3)
-follows-unique (Item.said p kind a b v ∷ items) s t (inl h) (inl h₂) = ends-unique (h .1) (h₂ .1)
-follows-unique (Item.said p kind a b v ∷ items) s t (inl h) (inr h₂) = absurd (omega (arith, h .0, h₂ .0))
-follows-unique (Item.said p kind a b v ∷ items) s t (inr h) (inl h₂) = absurd (omega (arith, h .0, h₂ .0))
-follows-unique (Item.said p kind a b v ∷ items) s t (inr h) (inr h₂) =
-    passes-unique p (Follows items) (tell-unique (h .3) (h₂ .3)) (follows-unique items (h .1 .session) (h .2)) (h .4)
-    (h₂ .4)
+follows-unique (Item.said p kind a b v ∷ items) s t {r₂ = r₂} {t₂ = t₂} h h₂ =
+    goes-unique (h .0) p
+    (λ l l₂.
+    made-unique p (Follows items) (tell-unique kind (l .2) (l₂ .2)) (follows-unique items (l .0 .session) (l .1)) (l .3)
+    (l₂ .3))
+    (h .2)
+    (subst
+    (λ (k : ℕ).
+    GoesOn k p s t r₂ t₂
+    ((r₁ : Reply) × (t₁ : List ℕ) × Owed (tell kind s t (factOf a b v)) (r₁, t₁)
+    × GoesOn (r₁ .number) p (r₁ .session) t₁ r₂ t₂ (Follows items (r₁ .session) t₁ r₂ t₂)))
+    (first-unique (badVerdict v ∷ []) (h₂ .0) (h .0) (h₂ .1) (h .1)) (h₂ .2))
 
 pub read-unique :
     {book t : List ℕ} {r r₂ : Reply} {t′ t₂ : List ℕ} → BookRead book t r t′ → BookRead book t r₂ t₂
@@ -64,31 +90,49 @@ read-unique {book} {t} h h₂ = follows-unique (itemsOf book) noSession t (h .fo
 abbrev Following : List Item → Type 0
 Following items = (s : Session) (t : List ℕ) → (r : Reply) × (t′ : List ℕ) × Follows items s t r t′
 
--- after a call that replied q
-unfoldable pub passes-there :
-    (items : List Item) (p : ℕ) (q : Reply) (u : List ℕ) → Following items
-    → (r : Reply) × (t′ : List ℕ) × Passes p q u r t′ (Follows items (q .session) u r t′)
-passes-there items p q u later = go (ℕ-discrete (q .number) 0)
+-- judged with a number
+unfoldable pub goes-there :
+    (k p : ℕ) (s : Session) (t : List ℕ) (L : Reply → List ℕ → Type 0)
+    → (k ≡ 0 → (r : Reply) × (t′ : List ℕ) × L r t′) → (r : Reply) × (t′ : List ℕ) × GoesOn k p s t r t′ (L r t′)
+goes-there k p s t L later = go (ℕ-discrete k 0)
   where
-    go : Dec (q .number ≡ 0) → (r : Reply) × (t′ : List ℕ) × Passes p q u r t′ (Follows items (q .session) u r t′)
-    go (yes e) = let x = later (q .session) u in (x .0, x .1, inr (e, x .2))
-    go (no e) = (reply (q .number) p (q .session), u, inl (e, (refl, refl)))
+    go : Dec (k ≡ 0) → (r : Reply) × (t′ : List ℕ) × GoesOn k p s t r t′ (L r t′)
+    go (yes e) = let x = later e in (x .0, x .1, inr (e, x .2))
+    go (no e) = (reply k p s, t, inl (e, (refl, refl)))
+
+-- a verdict is judged
+unfoldable pub verdict-there : (v : ℕ) → (k : ℕ) × First (badVerdict v ∷ []) k
+verdict-there v = judge 14 (decLt 1 v) (λ _. (0, refl))
+
+-- after a call that has an outcome
+unfoldable pub made-there :
+    (C : Reply × List ℕ → Type 0) (o : Reply × List ℕ) → C o → (p : ℕ) (L : Session → List ℕ → Reply → List ℕ → Type 0)
+    → ((s : Session) (t : List ℕ) → (r : Reply) × (t′ : List ℕ) × L s t r t′)
+    → (r : Reply) × (t′ : List ℕ) × ((r₁ : Reply) × (t₁ : List ℕ) × C (r₁, t₁)
+    × GoesOn (r₁ .number) p (r₁ .session) t₁ r t′ (L (r₁ .session) t₁ r t′))
+made-there C (q, u) h p L later =
+    let x = goes-there (q .number) p (q .session) u (L (q .session) u) (λ _. later (q .session) u) in
+    (x .0, x .1, (q, u, h, x .2))
 
 unfoldable pub follows-there : (items : List Item) → Following items
 follows-there [] s t = (reply 0 0 s, t, (refl, refl))
-follows-there (Item.fault p k ∷ items) s t = (reply k p s, t, (refl, refl))
+follows-there (Item.field p stage bytes ∷ items) s t =
+    let k = field-there stage bytes in
+    let x = goes-there (k .0) p s t (Follows items s t) (λ _. follows-there items s t) in
+    (x .0, x .1, (k .0, k .1, x .2))
 follows-there (Item.begin p n ∷ items) s t =
-    let q = fresh-there n t in
-    let x = passes-there items p (q .0) (q .1) (follows-there items) in
-    (x .0, x .1, (q .0, q .1, q .2, x .2))
-follows-there (Item.said p kind a b v ∷ items) s t = go (decLt 1 v) (follows-there items)
-  where
-    go : Dec (1 < v) → Following items → (r : Reply) × (t′ : List ℕ) × Follows (Item.said p kind a b v ∷ items) s t r t′
-    go (yes z) later = (reply 14 p s, t, inl (z, (refl, refl)))
-    go (no z) later =
-        let q = tell-there kind s t (factOf a b v) in
-        let x = passes-there items p (q .0) (q .1) later in
-        (x .0, x .1, inr (omega arith, q .0, q .1, q .2, x .2))
+    let q = fresh-there n t in made-there (Owed (fresh n t)) (q .0) (q .1) p (Follows items) (follows-there items)
+follows-there (Item.said p kind a b v ∷ items) s t =
+    let k = verdict-there v in
+    let q = tell-there kind s t (factOf a b v) in
+    let x =
+    goes-there (k .0) p s t
+    (λ r t′.
+    (r₁ : Reply) × (t₁ : List ℕ) × Owed (tell kind s t (factOf a b v)) (r₁, t₁)
+    × GoesOn (r₁ .number) p (r₁ .session) t₁ r t′ (Follows items (r₁ .session) t₁ r t′))
+    (λ _. made-there (Owed (tell kind s t (factOf a b v))) (q .0) (q .1) p (Follows items) (follows-there items))
+    in
+    (x .0, x .1, (k .0, k .1, x .2))
 
 unfoldable pub read-there : (book t : List ℕ) → (r : Reply) × (t′ : List ℕ) × BookRead book t r t′
 read-there book t = let q = follows-there (itemsOf book) noSession t in (q .0, q .1, record { followed = q .2 })
@@ -98,14 +142,15 @@ read-there book t = let q = follows-there (itemsOf book) noSession t in (q .0, q
 -- the facts said, as calls that were accepted
 abbrev pub callsSaid : List Item → List Made
 callsSaid [] = []
+callsSaid (Item.field p stage bytes ∷ items) = callsSaid items
 callsSaid (Item.begin p n ∷ items) = callsSaid items
-callsSaid (Item.said p kind a b v ∷ items) = record { call = Call.take kind (factOf a b v); number = 0 } ∷ callsSaid items
-callsSaid (Item.fault p k ∷ items) = callsSaid items
+callsSaid (Item.said p kind a b v ∷ items) =
+    record { call = Intake.fact kind (factOf a b v); number = 0 } ∷ callsSaid items
 
 abbrev pub placeOf : Item → ℕ
+placeOf (Item.field p stage bytes) = p
 placeOf (Item.begin p n) = p
 placeOf (Item.said p kind a b v) = p
-placeOf (Item.fault p k) = p
 
 abbrev pub ifBefore : {A : Type 0} → Dec A → Item → List Item → List Item
 ifBefore (yes h) item items = item ∷ items
@@ -116,10 +161,11 @@ abbrev pub itemsBefore : ℕ → List Item → List Item
 itemsBefore place [] = []
 itemsBefore place (item ∷ items) = ifBefore (decLt (placeOf item) place) item (itemsBefore place items)
 
--- Where a refused book stops: at the first byte of a field, with 10 to 13, or at the first byte of a fact, with 14 for a verdict above 1,
+-- Where a refused book stops: at the tag byte of a field, with 10 to 13, or at the first byte of a fact, with 14 for a verdict above 1,
 -- and with 5 or 6.
 pub data Stopped (book : List ℕ) (number place : ℕ) : Type 0 where
-  at-field : FieldAt book place → 10 ≤ number → number ≤ 13 → Stopped book number place
+  at-field :
+      {stage : Stage} → FieldAt book place stage → First (fieldRefusals stage (drop place book)) number → Stopped book number place
   at-verdict : {kind : Kind} {a b v : ℕ} → SaidAt book place kind a b v → 1 < v → number ≡ 14 → Stopped book number place
   at-fact :
       {kind : Kind} {a b v : ℕ} → SaidAt book place kind a b v → v ≤ 1 → (number ≡ 5) ⊎ (number ≡ 6)
@@ -132,23 +178,28 @@ pub data Followed (book : List ℕ) (items : List Item) (s : Session) (t : List 
       r .number ≢ 0 → Run s t (callsSaid (itemsBefore (r .place) items)) (r .session) t′
       → Stopped book (r .number) (r .place) → Followed book items s t r t′
 
-none-before :
-    (book : List ℕ) (place at : ℕ) (items : List Item) → place ≤ at → Later book at items → itemsBefore place items ≡ []
-none-before book place at [] h l = refl
-none-before book place at (Item.begin p n ∷ items) h l = absurd l
-none-before book place at (Item.said p kind a b v ∷ items) h l =
-    go (decLt p place) (none-before book place (suc p) items (omega (arith, l .0)) (l .2))
+-- an item that is not before the place
+passed-over :
+    (item : Item) (place : ℕ) (items : List Item) → place ≤ placeOf item → itemsBefore place (item ∷ items) ≡ itemsBefore place items
+passed-over item place items h = go (decLt (placeOf item) place)
   where
-    go :
-        (d : Dec (p < place)) → itemsBefore place items ≡ []
-        → ifBefore d (Item.said p kind a b v) (itemsBefore place items) ≡ []
-    go (yes z) e = absurd (omega (arith, l .0))
-    go (no z) e = e
-none-before book place at (Item.fault p k ∷ items) h l = go (decLt p place)
-  where
-    go : (d : Dec (p < place)) → ifBefore d (Item.fault p k) (itemsBefore place items) ≡ []
-    go (yes z) = absurd (omega (arith, l .0))
-    go (no z) = rw (l .4) refl
+    go : (d : Dec (placeOf item < place)) → ifBefore d item (itemsBefore place items) ≡ itemsBefore place items
+    go (yes z) = absurd (omega arith)
+    go (no z) = refl
+
+none-before : (place at : ℕ) (items : List Item) → place ≤ at → PlacesRise at items → itemsBefore place items ≡ []
+none-before place at [] h l = refl
+none-before place at (Item.field p stage bytes ∷ items) h l =
+    passed-over (Item.field p stage bytes) place items (omega (arith, l .0))
+    ∙ none-before place p items (omega (arith, l .0)) (l .1)
+none-before place at (Item.begin p n ∷ items) h l =
+    passed-over (Item.begin p n) place items (omega (arith, l .0))
+    ∙ none-before place (suc p) items (omega (arith, l .0)) (l .1)
+none-before place at (Item.said p kind a b v ∷ items) h l =
+    passed-over (Item.said p kind a b v) place items (omega (arith, l .0))
+    ∙ none-before place (suc p) items (omega (arith, l .0)) (l .1)
+
+-- the calls said by an item that is before the place, and by a field or a class count anywhere
 
 one-before :
     (item : Item) (place : ℕ) (items : List Item) → placeOf item < place
@@ -159,70 +210,113 @@ one-before item place items h = go (decLt (placeOf item) place)
     go (yes z) = refl
     go (no z) = absurd (z h)
 
+field-calls :
+    (p : ℕ) (stage : Stage) (bytes : List ℕ) (place : ℕ) (items : List Item)
+    → callsSaid (itemsBefore place (Item.field p stage bytes ∷ items)) ≡ callsSaid (itemsBefore place items)
+field-calls p stage bytes place items = go (decLt p place)
+  where
+    go :
+        (d : Dec (p < place))
+        → callsSaid (ifBefore d (Item.field p stage bytes) (itemsBefore place items)) ≡ callsSaid (itemsBefore place items)
+    go (yes z) = refl
+    go (no z) = refl
+
+count-calls :
+    (p n place : ℕ) (items : List Item)
+    → callsSaid (itemsBefore place (Item.begin p n ∷ items)) ≡ callsSaid (itemsBefore place items)
+count-calls p n place items = go (decLt p place)
+  where
+    go :
+        (d : Dec (p < place))
+        → callsSaid (ifBefore d (Item.begin p n) (itemsBefore place items)) ≡ callsSaid (itemsBefore place items)
+    go (yes z) = refl
+    go (no z) = refl
+
 -- the book stops at the first of these items, so that none of them was taken
 stops-here :
     (book : List ℕ) (k p : ℕ) (items : List Item) {s : Session} {t : List ℕ} {r : Reply} {t′ : List ℕ}
-    → Later book p items → k ≢ 0 → Stopped book k p → Ends k p s t r t′ → Followed book items s t r t′
+    → PlacesRise p items → k ≢ 0 → Stopped book k p → Ends k p s t r t′ → Followed book items s t r t′
 stops-here book k p items {s} {t} l ne stop e =
     rw (e .0, e .1)
     (Followed.some ne
-    (subst (λ (l : List Item). Run s t (callsSaid l) s t) (sym (none-before book p p items (omega arith) l)) Run.stop)
+    (subst (λ (l : List Item). Run s t (callsSaid l) s t) (sym (none-before p p items (omega arith) l)) Run.stop)
     stop)
 
-follows-run :
-    (book : List ℕ) (at : ℕ) (items : List Item) (s : Session) (t : List ℕ) {r : Reply} {t′ : List ℕ}
-    → Later book at items → Stands s t → Follows items s t r t′
-    → (r .number ≢ 0 → at ≤ r .place) × Followed book items s t r t′
-follows-run book at [] s t l st h =
-    rw (h .0, h .1) (λ z. absurd (z refl), Followed.all refl refl Run.stop)
-follows-run book at (Item.begin p n ∷ items) s t l st h = absurd l
-follows-run book at (Item.fault p k ∷ items) s t l st h = (
-  λ _. rw (h .0) (l .0),
-  stops-here book k p (Item.fault p k ∷ items) (omega arith, l .1, l .2, l .3, l .4) (λ z. omega (arith, l))
-      (Stopped.at-field (l .1) (l .2) (l .3)) h,
-)
-follows-run book at (Item.said p kind a b v ∷ items) s t l st (inl h) = (
-  λ _. rw (h .1 .0) (l .0),
-  stops-here book 14 p (Item.said p kind a b v ∷ items) (omega arith, l .1, l .2) (λ z. omega arith)
-      (Stopped.at-verdict (l .1) (h .0) refl) (h .1),
-)
-follows-run book at (Item.said p kind a b v ∷ items) s t {r} {t′} l st (inr h) =
-    go (h .4) (λ st₁ e. follows-run book (suc p) items (h .1 .session) (h .2) (l .2) st₁ e)
-  where
-    item : Item
-    item = Item.said p kind a b v
+-- a verdict that is refused, and one that is not
+verdict-refused : {v k : ℕ} → First (badVerdict v ∷ []) k → k ≢ 0 → (1 < v) × (k ≡ 14)
+verdict-refused (inl h) ne = h
+verdict-refused (inr h) ne = absurd (ne (h .1))
 
-    took : Took kind s t (factOf a b v) (h .1) (h .2)
-    took = h .3
+verdict-right : {v k : ℕ} → First (badVerdict v ∷ []) k → k ≡ 0 → v ≤ 1
+verdict-right (inl h) e = absurd (omega (arith, h .1))
+verdict-right (inr h) e = omega (arith, h .0)
 
-    fact-number : (k : ℕ) → (k ≡ 0) ⊎ (k ≡ 5) ⊎ (k ≡ 6) → k ≢ 0 → (k ≡ 5) ⊎ (k ≡ 6)
-    fact-number k (inl e) ne = absurd (ne e)
-    fact-number k (inr e) ne = e
+-- what follows an item, where the reading goes on
+abbrev Onward : List ℕ → ℕ → List Item → Session → List ℕ → Reply → List ℕ → Type 0
+Onward book at items s t r t′ = (r .number ≢ 0 → at ≤ r .place) × Followed book items s t r t′
 
-    go :
-        Passes p (h .1) (h .2) r t′ (Follows items (h .1 .session) (h .2) r t′)
-        → (Stands (h .1 .session) (h .2) → Follows items (h .1 .session) (h .2) r t′
-        → (r .number ≢ 0 → suc p ≤ r .place) × Followed book items (h .1 .session) (h .2) r t′)
-        → (r .number ≢ 0 → at ≤ r .place) × Followed book (item ∷ items) s t r t′
-    go (inl (k, e)) later = (
-      λ _. rw (e .0) (l .0),
-      stops-here book (h .1 .number) p (item ∷ items) (omega arith, l .1, l .2) k
-          (Stopped.at-fact (l .1) (h .0) (fact-number (h .1 .number) (tell-numbers st took) k))
-          (rw (took .replies .refused k .0, took .replies .refused k .1) at e),
-    )
-    go (inr (k, e)) later =
-        let x = later (leaves-keeps (tell-leaves took k) st) e in (λ ne. omega (arith, x .0 ne, l .0), longer (x .0) (x .1))
-      where
-        longer :
-            (r .number ≢ 0 → suc p ≤ r .place) → Followed book items (h .1 .session) (h .2) r t′
-            → Followed book (item ∷ items) s t r t′
-        longer le (Followed.all z place run) = Followed.all z place (Run.call (Makes.took took) k run)
-        longer le (Followed.some z run stop) =
-            Followed.some z
-            (subst (λ (l : List Item). Run s t (callsSaid l) (r .session) t′)
-            (sym (one-before item (r .place) items (omega (arith, le z))))
-            (Run.call (Makes.took took) k run))
-            stop
+module _ (book : List ℕ) where
+  field-run :
+      (at p : ℕ) (stage : Stage) (bytes : List ℕ) (items : List Item) (s : Session) (t : List ℕ) {r : Reply} {t′ : List ℕ} → at ≤ p
+      → Onward book p items s t r t′ → Onward book at (Item.field p stage bytes ∷ items) s t r t′
+  field-run at p stage bytes items s t {r} {t′} h (le, f) = (λ ne. omega (arith, le ne), go f)
+    where
+      go : Followed book items s t r t′ → Followed book (Item.field p stage bytes ∷ items) s t r t′
+      go (Followed.all z place run) = Followed.all z place run
+      go (Followed.some z run stop) =
+          Followed.some z
+          (subst (λ (l : List Made). Run s t l (r .session) t′) (sym (field-calls p stage bytes (r .place) items)) run) stop
+
+  fact-run :
+      (at p : ℕ) (kind : Kind) (a b v : ℕ) (items : List Item) (s : Session) (t : List ℕ) {q r : Reply} {u t′ : List ℕ} → at ≤ p
+      → Owed (tell kind s t (factOf a b v)) (q, u) → q .number ≡ 0 → Onward book (suc p) items (q .session) u r t′
+      → Onward book at (Item.said p kind a b v ∷ items) s t r t′
+  fact-run at p kind a b v items s t {q} {r} {u} {t′} h told k (le, f) = (λ ne. omega (arith, le ne), go f)
+    where
+      item : Item
+      item = Item.said p kind a b v
+
+      go : Followed book items (q .session) u r t′ → Followed book (item ∷ items) s t r t′
+      go (Followed.all z place run) = Followed.all z place (Run.call told k run)
+      go (Followed.some z run stop) =
+          Followed.some z
+          (subst (λ (l : List Item). Run s t (callsSaid l) (r .session) t′)
+          (sym (one-before item (r .place) items (omega (arith, le z))))
+          (Run.call told k run))
+          stop
+
+  follows-run :
+      (at : ℕ) (items : List Item) (s : Session) (t : List ℕ) {r : Reply} {t′ : List ℕ} → PlacesRise at items
+      → Later book items → Stands s t → Follows items s t r t′ → Onward book at items s t r t′
+  follows-run at [] s t rise l st h = rw (h .0, h .1) (λ z. absurd (z refl), Followed.all refl refl Run.stop)
+  follows-run at (Item.begin p n ∷ items) s t rise l st h = absurd l
+  follows-run at (Item.field p stage bytes ∷ items) s t rise l st (k, first, inl (ne, e)) = (
+    λ _. rw (e .0) (rise .0),
+    stops-here book k p (Item.field p stage bytes ∷ items) (omega arith, rise .1) ne
+        (Stopped.at-field (l .2) (rw (← l .0, ← l .1) first)) e,
+  )
+  follows-run at (Item.field p stage bytes ∷ items) s t rise l st (k, first, inr (z, later)) =
+      field-run at p stage bytes items s t (rise .0)
+      (follows-run p items s t (rise .1) (l .3 (subst (First (fieldRefusals stage bytes)) z first)) st later)
+  follows-run at (Item.said p kind a b v ∷ items) s t rise l st (k, first, inl (ne, e)) =
+      let bad = verdict-refused first ne in (
+        λ _. rw (e .0) (rise .0),
+        stops-here book k p (Item.said p kind a b v ∷ items) (omega arith, rise .1) ne
+            (Stopped.at-verdict (l .0) (bad .0) (bad .1)) e,
+      )
+  follows-run at (Item.said p kind a b v ∷ items) s t rise l st (k, first, inr (z, (q, u, told, inl (ne, e)))) =
+      let kept = changes-kept told ne in (
+        λ _. rw (e .0) (rise .0),
+        stops-here book (q .number) p (Item.said p kind a b v ∷ items) (omega arith, rise .1) ne
+            (Stopped.at-fact (l .0) (verdict-right first z) (fact-number (tell-numbers kind st told))) (rw (kept .0, kept .1) at e),
+      )
+    where
+      fact-number : (q .number ≡ 0) ⊎ (q .number ≡ 5) ⊎ (q .number ≡ 6) → (q .number ≡ 5) ⊎ (q .number ≡ 6)
+      fact-number (inl e) = absurd (ne e)
+      fact-number (inr e) = e
+  follows-run at (Item.said p kind a b v ∷ items) s t rise l st (k, first, inr (z, (q, u, told, inr (y, later)))) =
+      fact-run at p kind a b v items s t (rise .0) told y
+      (follows-run (suc p) items (q .session) u (rise .1) (l .1) (leaves-keeps (tell-leaves kind told y) st) later)
 
 -- What a reading comes to. No class count was accepted, and table and session show it; or a run from fresh for the book's class count,
 -- with all the facts said, in order; or with those before the place.
@@ -241,44 +335,77 @@ pub data ReadAs (book t : List ℕ) (r : Reply) (t′ : List ℕ) : Type 0 where
 pub read-run : {book t : List ℕ} {r : Reply} {t′ : List ℕ} → BookRead book t r t′ → ReadAs book t r t′
 read-run {book} {t} {r} {t′} h = go (itemsOf book) (items-whole book) (h .followed) refl
   where
+    -- behind the first field
+    counted :
+        (p₀ : ℕ) (stage : Stage) (bytes : List ℕ) (items : List Item) → Counted book items → Follows items noSession t r t′
+        → itemsOf book ≡ Item.field p₀ stage bytes ∷ items → ReadAs book t r t′
+    counted p₀ stage bytes [] c f e = absurd c
+    counted p₀ stage bytes (Item.field p st b ∷ items) c f e = absurd c
+    counted p₀ stage bytes (Item.said p kind a b v ∷ items) c f e = absurd c
+    counted p₀ stage bytes (Item.begin p n ∷ items) c (q, u, begun, inl (k, x)) e =
+        let kept = changes-kept begun k in
+        rw (x .0)
+        (ReadAs.not-begun (c .0) (kept .0) (x .1 ∙ kept .1) (inl (omega arith, fresh-numbers begun)))
+    counted p₀ stage bytes (Item.begin p n ∷ items) c (q, u, begun, inr (k, x)) e =
+        came
+        (follows-run book 1 items (q .session) u (c .2) (c .3) (standing-passed [] (fresh-stands begun k .stands) .0) x .1)
+      where
+        from-fresh :
+            {calls : List Made} → Run (q .session) u calls (r .session) t′
+            → FromFresh (getD book 3 0) t calls (r .session) t′
+        from-fresh run = record { reply = q; table = u; began = rw (c .1) at begun; accepted = k; run = run }
+
+        came : Followed book items (q .session) u r t′ → ReadAs book t r t′
+        came (Followed.all z place run) = ReadAs.whole z place (from-fresh (rw e run))
+        came (Followed.some z run stop) =
+            ReadAs.cut z
+            (from-fresh
+            (subst (λ (l : List Made). Run (q .session) u l (r .session) t′)
+            (sym
+            (ap (λ (l : List Item). callsSaid (itemsBefore (r .place) l)) e
+            ∙ field-calls p₀ stage bytes (r .place) (Item.begin p n ∷ items) ∙ count-calls p n (r .place) items))
+            run))
+            stop
+
     go : (items : List Item) → Whole book items → Follows items noSession t r t′ → itemsOf book ≡ items → ReadAs book t r t′
     go [] w f e = absurd w
+    go (Item.begin p n ∷ items) w f e = absurd w
     go (Item.said p kind a b v ∷ items) w f e = absurd w
-    go (Item.fault p k ∷ items) w f e = rw (f .0) (ReadAs.not-begun (w .0) refl (f .1) (inr (w .1, w .2)))
-    go (Item.begin p n ∷ items) w (q, u, fresh, passes) e = pick passes
-      where
-        from-fresh : q .number ≡ 0 → {calls : List Made} → Run (q .session) u calls (r .session) t′ → FromFresh (getD book 3 0) t calls (r .session) t′
-        from-fresh k run =
-            record { reply = q; table = u; began = rw (w .1) at fresh; accepted = k; run = run }
-
-        pick : Passes p q u r t′ (Follows items (q .session) u r t′) → ReadAs book t r t′
-        pick (inl (k, x)) =
-            let same = fresh .replies .refused k in
-            rw (x .0)
-            (ReadAs.not-begun (w .0) (same .0) (x .1 ∙ same .1) (inl (omega arith, fresh-numbers fresh)))
-        pick (inr (k, x)) =
-            let y = follows-run book 1 items (q .session) u (w .2) (standing-passed [] (fresh-stands fresh k .stands) .0) x in
-            came (y .0) (y .1)
-          where
-            came : (r .number ≢ 0 → 1 ≤ r .place) → Followed book items (q .session) u r t′ → ReadAs book t r t′
-            came le (Followed.all z place run) =
-                ReadAs.whole z place (from-fresh k (rw e run))
-            came le (Followed.some z run stop) =
-                let behind = one-before (Item.begin p n) (r .place) items (omega (arith, le z, w .0)) in
-                ReadAs.cut z (from-fresh k (rw (e, behind) run)) stop
+    go (Item.field p stage bytes ∷ items) w (k, first, inl (ne, x)) e =
+        rw (x .0) (ReadAs.not-begun (w .0) refl (x .1) (inr (field-numbers stage bytes k first ne)))
+    go (Item.field p stage bytes ∷ items) w (k, first, inr (z, later)) e =
+        counted p stage bytes items (w .3 (subst (First (fieldRefusals stage bytes)) z first)) later e
 
 -- "Numbers 3 and 4 can't come up in reading."
 pub read-numbers : {book t : List ℕ} {r : Reply} {t′ : List ℕ} → BookRead book t r t′ → (r .number ≢ 3) × (r .number ≢ 4)
 read-numbers {book} {t} {r} {t′} h = go (read-run h)
   where
-    stopped : Stopped book (r .number) (r .place) → (r .number ≢ 3) × (r .number ≢ 4)
-    stopped (Stopped.at-field q lo hi) = omega arith
-    stopped (Stopped.at-verdict q v e) = omega arith
-    stopped (Stopped.at-fact q v (inl e)) = omega arith
-    stopped (Stopped.at-fact q v (inr e)) = omega arith
+    stopped : r .number ≢ 0 → Stopped book (r .number) (r .place) → (r .number ≢ 3) × (r .number ≢ 4)
+    stopped ne (Stopped.at-field {stage} q first) =
+        let n = field-numbers stage (drop (r .place) book) (r .number) first ne in (λ e. omega arith, λ e. omega arith)
+    stopped ne (Stopped.at-verdict q v e) = omega arith
+    stopped ne (Stopped.at-fact q v (inl e)) = omega arith
+    stopped ne (Stopped.at-fact q v (inr e)) = omega arith
 
     go : ReadAs book t r t′ → (r .number ≢ 3) × (r .number ≢ 4)
     go (ReadAs.not-begun p s u (inl e)) = omega arith
     go (ReadAs.not-begun p s u (inr e)) = omega arith
+    go (ReadAs.whole e p run) = omega arith
+    go (ReadAs.cut e run stop) = stopped e stop
+
+-- a place never exceeds the book's length
+pub read-place : {book t : List ℕ} {r : Reply} {t′ : List ℕ} → BookRead book t r t′ → r .place ≤ length book
+read-place {book} {t} {r} {t′} h = go (read-run h)
+  where
+    said : {p a b v : ℕ} {kind : Kind} → SaidAt book p kind a b v → p ≤ length book
+    said s = omega (arith, s .to, ends-within book (s .field) Begun (s .right))
+
+    stopped : Stopped book (r .number) (r .place) → r .place ≤ length book
+    stopped (Stopped.at-field q first) = field-within q
+    stopped (Stopped.at-verdict s v e) = said s
+    stopped (Stopped.at-fact s v e) = said s
+
+    go : ReadAs book t r t′ → r .place ≤ length book
+    go (ReadAs.not-begun p s u e) = omega arith
     go (ReadAs.whole e p run) = omega arith
     go (ReadAs.cut e run stop) = stopped stop

@@ -6,7 +6,7 @@ use mathlib.Core.Bool.{Bool, true, false}
 use mathlib.Core.List.{List, [], _∷_, _++_}
 use Prim.Native.Nat.{ℕ, zero, suc, _+_, _*_, _-_, _/_, _%_, _<_}
 use lib.Dec.{eqb}
-use lib.ListN.{length, getD, take, drop}
+use lib.ListN.{length, getD, drop}
 use Rattle.order.specs.Refusals.{Condition, First}
 use Rattle.order.specs.Facts.{Fact, factOn}
 use Rattle.promise.specs.declared.Stage.{Stage}
@@ -19,8 +19,8 @@ use Rattle.promise.specs.Sessions.{noSession, reply}
 use Rattle.promise.specs.Clips.{truthOf}
 use Rattle.promise.specs.Calls.{Owed}
 
--- what the contents of a field are: a class count, or facts of so many bytes each, all of one kind, with the verdict that a fact's bytes
--- give
+-- what the contents of a field are: a class count, or facts of so many bytes each, all of one kind, with the verdict that the bytes from
+-- a fact on give
 pub data Contents : Type 0 where
   class-count : Contents
   facts : (width : ℕ) (kind : Kind) (verdict : List ℕ → ℕ) → Contents
@@ -41,6 +41,17 @@ abbrev pub onceBegun : Stage → Bool
 onceBegun Start = false
 onceBegun Begun = true
 
+-- a tag whose contents are the class count, one byte: "first field, once only"
+abbrev pub countRow : ℕ → TagRow
+countRow tag =
+    record {
+      tag = tag;
+      stands = atStart;
+      allows = λ len. eqb len 1;
+      contents = Contents.class-count;
+      behind = Begun;
+    }
+
 -- a tag whose contents are facts: any number of whole ones, once a class count is accepted
 abbrev pub factsRow : ℕ → ℕ → Kind → (List ℕ → ℕ) → TagRow
 factsRow tag width kind verdict =
@@ -52,10 +63,10 @@ factsRow tag width kind verdict =
       behind = Begun;
     }
 
--- "n; first field, once only", "yes facts, told: a, b", "no facts, told: a, b", "answers: a, b, verdict 1 yes or 0 no"
+-- "n", "yes facts, told: a, b", "no facts, told: a, b", "answers: a, b, verdict 1 yes or 0 no"
 abbrev pub tags : List TagRow
 tags =
-    record { tag = 1; stands = atStart; allows = λ len. eqb len 1; contents = Contents.class-count; behind = Begun }
+    countRow 1
     ∷ factsRow 2 2 Kind.told (λ bytes. 1)
     ∷ factsRow 3 2 Kind.told (λ bytes. 0)
     ∷ factsRow 4 3 Kind.answered (λ bytes. getD bytes 2 0)
@@ -80,6 +91,10 @@ rowOf tag = lookup tag tags
 -- the length that a field gives, "high byte first"
 abbrev pub lengthOf : List ℕ → ℕ
 lengthOf bytes = getD bytes 1 0 * 256 + getD bytes 2 0
+
+-- the size of a field, its head and its contents
+abbrev pub sizeOf : List ℕ → ℕ
+sizeOf bytes = 3 + lengthOf bytes
 
 -- "11, 12, 13, 10 (contents)", by the row of the tag; room bytes come after the head
 abbrev pub rowRefusals : Lookup → Stage → ℕ → ℕ → List Condition
@@ -108,14 +123,15 @@ factsFrom (suc count) width kind verdict at bytes =
     Item.said at kind (getD bytes 0 0) (getD bytes 1 0) (verdict bytes)
     ∷ factsFrom count width kind verdict (at + width) (drop width bytes)
 
--- what the contents of a field say whose tag byte stands at place at
+-- what a field says whose tag byte stands at place at, with these bytes from there on
 abbrev pub saidIn : Contents → ℕ → List ℕ → List Item
-saidIn Contents.class-count at bytes = Item.begin at (getD bytes 0 0) ∷ []
-saidIn (Contents.facts width kind verdict) at bytes = factsFrom (length bytes / width) width kind verdict (at + 3) bytes
+saidIn Contents.class-count at bytes = Item.begin at (getD bytes 3 0) ∷ []
+saidIn (Contents.facts width kind verdict) at bytes =
+    factsFrom (lengthOf bytes / width) width kind verdict (at + 3) (drop 3 bytes)
 
-abbrev pub contentsOf : Lookup → ℕ → List ℕ → List Item
-contentsOf Lookup.none at bytes = []
-contentsOf (Lookup.row tag) at bytes = saidIn (tag .contents) at bytes
+abbrev pub fieldSays : Lookup → ℕ → List ℕ → List Item
+fieldSays Lookup.none at bytes = []
+fieldSays (Lookup.row tag) at bytes = saidIn (tag .contents) at bytes
 
 -- the stage behind a field
 abbrev pub stageBehind : Lookup → Stage → Stage
@@ -128,10 +144,10 @@ unfoldable pub itemsFrom : ℕ → Stage → ℕ → List ℕ → List Item
 itemsFrom zero stage at bytes = []
 itemsFrom (suc fuel) stage at [] = []
 itemsFrom (suc fuel) stage at (tag ∷ bytes) =
-    let len = lengthOf (tag ∷ bytes) in
-    Item.field at stage (tag ∷ bytes)
-    ∷ contentsOf (rowOf tag) at (take len (drop 2 bytes))
-    ++ itemsFrom fuel (stageBehind (rowOf tag) stage) (at + 3 + len) (drop len (drop 2 bytes))
+    let field = tag ∷ bytes in
+    Item.field at stage field
+    ∷ fieldSays (rowOf tag) at field
+    ++ itemsFrom fuel (stageBehind (rowOf tag) stage) (at + sizeOf field) (drop (sizeOf field) field)
 
 -- what a book comes to, an empty one to its missing first field; it has no more fields than bytes
 abbrev pub itemsOf : List ℕ → List Item
