@@ -27,9 +27,7 @@ enough zero (suc k) zero h g = refl
 enough zero (suc k) (suc x) h g = absurd (omega arith)
 enough (suc j) zero zero h g = refl
 enough (suc j) zero (suc x) h g = absurd (omega arith)
-enough (suc j) (suc k) x h g =
-    ap (λ (u : List ℕ). unless (ltb x 10) u ++ (digit-0 + x % 10) ∷ [])
-    (enough j k (x / 10) (omega arith) (omega arith))
+enough (suc j) (suc k) x h g = rw (enough j k (x / 10) (omega arith) (omega arith))
 
 -- a number below 10 is one digit
 pub decimal-one : (x : ℕ) → x < 10 → decimal x ≡ (digit-0 + x) ∷ []
@@ -37,18 +35,17 @@ unfolding digits decimal
 decimal-one zero h = refl
 decimal-one (suc x) h =
     let same : suc x % 10 ≡ suc x = omega arith in
-    ap (λ (u : List ℕ). u ++ (digit-0 + suc x % 10) ∷ [])
-    (unless-true (ltb (suc x) 10) (digits x (suc x / 10)) (lt→ltb (suc x) 10 h))
-    ∙ ap (λ (d : ℕ). (digit-0 + d) ∷ []) same
+    rw (unless-true (ltb (suc x) 10) (digits x (suc x / 10)) (lt→ltb (suc x) 10 h), same)
 
 -- any other is its last digit behind the others
 pub decimal-more : (x : ℕ) → 10 ≤ x → decimal x ≡ decimal (x / 10) ++ (digit-0 + x % 10) ∷ []
 unfolding digits decimal
 decimal-more zero h = absurd (omega arith)
 decimal-more (suc x) h =
-    ap (λ (u : List ℕ). u ++ (digit-0 + suc x % 10) ∷ [])
-    (unless-false (ltb (suc x) 10) (digits x (suc x / 10)) (λ b. omega (arith, ltb→lt (suc x) 10 b))
-    ∙ enough x (suc x / 10) (suc x / 10) (omega arith) (omega arith))
+    rw (
+      unless-false (ltb (suc x) 10) (digits x (suc x / 10)) (λ b. omega (arith, ltb→lt (suc x) 10 b)),
+      enough x (suc x / 10) (suc x / 10) (omega arith) (omega arith),
+    )
 
 -- the number that digits make, behind those that made v
 unfoldable pub valueFrom : ℕ → List ℕ → ℕ

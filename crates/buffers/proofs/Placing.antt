@@ -121,9 +121,3 @@ put-before {w} {x} first second =
       ends = omega (arith, first .ends, second .ends, length-append w x);
       fits = first .fits;
     }
-
--- there is room for what is put behind, if there was room for both
-pub room-then :
-    {w : List ℕ} {at : ℕ} {out : List ℕ} {behind : ℕ} {out₁ : List ℕ} (x : List ℕ) → Put w at out behind out₁
-    → at + length (w ++ x) ≤ length out → behind + length x ≤ length out₁
-room-then {w} x p h = omega (arith, p .ends, put-length p, length-append w x)

@@ -1,4 +1,5 @@
 // Groups and direct steps.
+use buffers::copy_front;
 use marks::count_open;
 use promise::MOST_CLASSES;
 use promise::NO_ROOM;
@@ -9,7 +10,6 @@ use standing::refused;
 use standing::standing;
 use steps::find_heads;
 use steps::list_steps;
-use steps::write_front;
 ghost use Rattle.promise.specs.Hierarchy.{HierarchyWritten};
 ghost use Rattle.steps.specs.Found.{Ordered};
 ghost use Rattle.hierarchy.specs.Owed.{HierarchyLeft};
@@ -33,8 +33,8 @@ fn write_hierarchy(n: usize, table: &[u8], heads: &mut [u8], steps: &mut [u8]) -
     if steps.len() < 2 * count {
         return refused(NO_ROOM);
     }
-    write_front(n, &found[..], heads);
-    write_front(2 * count, &listed[..], steps);
+    copy_front(n, &found[..], heads);
+    copy_front(2 * count, &listed[..], steps);
     Wrote::Count(count)
 }
 

@@ -4,7 +4,7 @@ use mathlib.Core.Path.{_≡_, sym, _∙_, ap}
 use mathlib.Core.List.{List, [], _∷_, _++_, append-assoc, append-nil}
 use Prim.Native.Nat.{ℕ, _+_, _-_, _/_, _%_, _<_, _≤_}
 use native.Mathlib.Omega.{arith}
-use lib.ListN.{length, set, length-append}
+use lib.ListN.{length, set, length-append, length-set}
 use Rattle.buffers.specs.Placed.{Put}
 use Rattle.buffers.specs.Decimal.{digit-0, decimal}
 use Rattle.buffers.proofs.Placing.{put-none, put-one, put-before, put-length}
@@ -100,7 +100,7 @@ slice-write-out-2 : tie.Need-slice-write-out-2 Inv-loop μ-loop
 slice-write-out-2 c = omega (arith, room (c .before .loop .inv))
 
 same-length : tie.Need-same-length Inv-loop μ-loop
-same-length c = put-length (all-put (c .before .loop .inv) (omega arith))
+same-length c = simp length-set (put-length (c .before .loop .inv .put))
 
 returns : tie.Need-returns Inv-loop μ-loop
 returns c = all-put (c .before .loop .inv) (omega arith)
