@@ -11,57 +11,13 @@ use Rattle.order.specs.Pairs.{Pair, bytesOf}
 use Rattle.buffers.specs.Placed.{Put}
 use Rattle.buffers.specs.Decimal.{decimal}
 use Rattle.buffers.proofs.Placing.{put-none, put-then}
-use Rattle.buffers.proofs.Decimals.{decimal-written, decimal-longest}
-use Rattle.lines.specs.Lines.{
-  line-feed,
-  space,
-  capital-C,
-  capital-E,
-  capital-N,
-  capital-O,
-  capital-T,
-  spaced,
-  labelled,
-  line,
-  countsLine,
-  classLines,
-  stepLines,
-}
+use Rattle.buffers.proofs.Decimals.{decimal-written}
+use Rattle.lines.specs.Lines.{line, capital-C, capital-E, classLines, stepLines}
 use Rattle.lines.specs.Put.{LinesPut, pairsIn}
 
-pub line-length : (letter x y : ℕ) → length (line letter x y) ≡ 4 + length (decimal x) + length (decimal y)
-line-length letter x y =
-    omega (
-      arith,
-      length-append (labelled letter x) (spaced y ++ (line-feed ∷ [])),
-      length-append (spaced y) (line-feed ∷ []),
-    )
-
--- a line of any two numbers
-pub line-long :
-    (letter x y : ℕ) → x < 18446744073709551616 → y < 18446744073709551616 → length (line letter x y) ≤ 44
-line-long letter x y hx hy = omega (arith, line-length letter x y, decimal-longest x hx, decimal-longest y hy)
-
-pub counts-length :
-    (n t o : ℕ) → length (countsLine n t o) ≡ 9 + length (decimal n) + length (decimal t) + length (decimal o)
-counts-length n t o =
-    let last : List ℕ = labelled capital-O o ++ (line-feed ∷ []) in
-    omega (
-      arith,
-      length-append (labelled capital-N n) (space ∷ labelled capital-T t ++ (space ∷ last)),
-      length-append (labelled capital-T t) (space ∷ last),
-      length-append (labelled capital-O o) (line-feed ∷ []),
-    )
-
--- a line of two bytes
-pub line-short : (letter x y : ℕ) → x < 256 → y < 256 → length (line letter x y) ≤ 10
-line-short letter x y hx hy =
-    omega (
-      arith,
-      line-length letter x y,
-      decimal-written x .short 3 (omega arith) (omega arith),
-      decimal-written y .short 3 (omega arith) (omega arith),
-    )
+-- a byte has at most three digits
+pub byte-short : (x : ℕ) → x < 256 → length (decimal x) ≤ 3
+byte-short x h = decimal-written x .short 3 (omega arith) (omega arith)
 
 pub no-line : {at : ℕ} {text : List ℕ} → at ≤ length text → LinesPut 0 [] at text at text
 no-line h = record { put = put-none h; short = omega arith }
@@ -74,7 +30,7 @@ one-more :
 one-more {at = at} {text = text} {end = end} {text₂ = text₂} letter x y hx hy e h p =
     record {
       put = subst (λ (u : List ℕ). Put u at text end text₂) e (put-then (h .put) p);
-      short = omega (arith, h .short, p .ends, line-short letter x y hx hy);
+      short = omega (arith, h .short, simp length-append at (p .ends), byte-short x hx, byte-short y hy);
     }
 
 classes-behind :

@@ -3,7 +3,7 @@
 use mathlib.Core.Path.{_≡_, refl, sym, _∙_, ap}
 use mathlib.Core.Logic.{_≢_, inl, inr}
 use mathlib.Core.List.{List, []}
-use Prim.Native.Nat.{ℕ, _≤_, _<_}
+use Prim.Native.Nat.{ℕ, _+_, _≤_, _<_}
 use native.Mathlib.Omega.{arith}
 use native.Mathlib.Nat.{mul-le-mul}
 use lib.ListN.{length, take}
@@ -25,26 +25,31 @@ use Rattle.promise.proofs.Standing.{Stands, standing-passed, stands-first}
 use Rattle.promise.proofs.Next.{done-exactly}
 use Rattle.promise.proofs.Triangles.{steps-few, hierarchy-room}
 use Rattle.buffers.specs.Placed.{Put}
+use Rattle.buffers.specs.Decimal.{decimal}
 use Rattle.buffers.proofs.Placing.{put-then}
 use Rattle.buffers.proofs.Decimals.{decimal-written}
 use Rattle.marks.specs.Shape.{Shape}
 use Rattle.marks.proofs.Shape.{square}
-use Rattle.lines.specs.Lines.{capital-Q, countsLine, questionLine, refusalLine, Shows, classLines, stepLines}
+use Rattle.lines.specs.Lines.{countsLine, refusalLine, Shows, classLines, stepLines}
 use Rattle.lines.specs.Put.{LinesPut, pairsIn, QuestionPut, Settled, SettledPut, Reportable, Reported}
-use Rattle.lines.proofs.LineByLine.{counts-length, line-short, pairs-back}
+use Rattle.lines.proofs.LineByLine.{byte-short, pairs-back}
 
 -- the pair asked about is the first open one
 pub asked-first :
     {s : Session} {t : List ℕ} {q : Question} {a b : ℕ} → Asked s t q → q ≡ Ask a b → FirstOpen (s .classes) t a b
 asked-first {s} {t} h e = (rw e at h) .says
 
--- and its line is short
+-- and its numbers are short
 pub question-short :
     (s : Session) {t : List ℕ} {a b : ℕ} → First (standing s t []) 0 → FirstOpen (s .classes) t a b
-    → length (questionLine a b) ≤ 10
+    → length (decimal a) + length (decimal b) ≤ 6
 question-short s {a = a} {b = b} st p =
     let few = standing-passed [] st .0 .few in
-    line-short capital-Q a b (omega (arith, p .lower-below)) (omega (arith, p .upper-below))
+    omega (
+      arith,
+      byte-short a (omega (arith, p .lower-below)),
+      byte-short b (omega (arith, p .upper-below)),
+    )
 
 -- where a pair is open next is not done
 pub never-done : {s : Session} {t : List ℕ} {q : Question} → 0 < opens (s .classes) t → Asked s t q → q ≡ Done → ⊥
@@ -115,19 +120,18 @@ ready-shape {r} ready accepted =
     let st = standing-passed [] (ready .stands accepted) .0 in
     record { few = st .few; room = st .room }
 
--- the line of its counts is short, for they are below 100,000
+-- and its counts are short, for they are below 100,000
 pub counts-short :
     {r : Reply} {t heads steps text : List ℕ} {count : ℕ} → Reportable r t heads steps text → r .number ≡ 0
     → count ≡ opens (r .session .classes) t
-    → length (countsLine (r .session .classes) (r .session .tests) count) ≤ 22
+    → length (decimal (r .session .classes)) + length (decimal (r .session .tests)) + length (decimal count) ≤ 13
 counts-short {r} {t} {count = count} ready accepted same =
     let s = r .session in
     let st = standing-passed [] (ready .stands accepted) .0 in
     let few = square (s .classes) (st .few) in
     omega (
       arith,
-      counts-length (s .classes) (s .tests) count,
-      decimal-written (s .classes) .short 3 (omega arith) (omega (arith, st .few)),
+      byte-short (s .classes) (omega (arith, st .few)),
       decimal-written (s .tests) .short 5 (omega arith) (omega (arith, st .count)),
       decimal-written count .short 5 (omega arith) (omega (arith, st .count)),
     )

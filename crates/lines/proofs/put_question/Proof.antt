@@ -1,6 +1,7 @@
 -- `lines::put_question` meets its contract: the pair asked about is the first open one.
 -- Assumes nothing.
 use native.Mathlib.Omega.{arith}
+use lib.ListN.{length-append}
 use Rattle.lines.proofs.Saying.{asked-first, question-short, never-done, never-refused}
 use borrow.Author.Needs.{needs}
 use Rattle.lines.proofs.put_question.Statement.{statement}
@@ -17,12 +18,11 @@ put-line-requires c κs =
     let question = c .before .before in
     let asked = question .before .before in
     let start = asked .before .before .before in
-    omega (
-      arith,
-      start .pre .2,
-      question-short (start .args .session) (start .pre .0)
-          (asked-first (asked .next .ensures) (question .question .given .1)),
-    )
+    let short =
+    question-short (start .args .session) (start .pre .0)
+    (asked-first (asked .next .ensures) (question .question .given .1))
+    in
+    simp length-append (omega (arith, start .pre .2))
 
 enum-told : tie.Need-enum-told
 enum-told c = search needs

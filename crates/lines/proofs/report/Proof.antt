@@ -2,8 +2,8 @@
 -- Assumes nothing.
 use mathlib.Core.Path.{sym, _∙_}
 use native.Mathlib.Omega.{arith}
-use Rattle.lines.specs.Lines.{capital-R}
-use Rattle.lines.proofs.LineByLine.{line-long}
+use lib.ListN.{length-append}
+use Rattle.buffers.proofs.Decimals.{decimal-longest}
 use Rattle.lines.proofs.Saying.{counts-short, ready-shape, reported-refused, reported-settled, reported-open}
 use borrow.Author.Needs.{needs}
 use Rattle.lines.proofs.report.Statement.{statement}
@@ -15,7 +15,8 @@ cast-put-line c = search needs
 put-line-requires : tie.Need-put-line-requires
 put-line-requires c κs =
     let reply = c .before .before .before .before .before .before .before .before .args .reply in
-    omega (arith, line-long capital-R (reply .number) (reply .place) (omega arith) (omega arith))
+    simp length-append
+    (omega (arith, decimal-longest (reply .number) (omega arith), decimal-longest (reply .place) (omega arith)))
 
 same-length : tie.Need-same-length
 same-length c = search needs
@@ -31,7 +32,8 @@ put-counts-requires c κs =
     let opened = c .before in
     let accepted = opened .before .before in
     let start = accepted .before .before .before .before .before .before in
-    omega (arith, start .pre .text-room, counts-short (start .pre) (accepted .if1 .left) (opened .count-open .ensures))
+    let counts = counts-short (start .pre) (accepted .if1 .left) (opened .count-open .ensures) in
+    simp length-append (omega (arith, start .pre .text-room))
 
 put-settled-requires : tie.Need-put-settled-requires
 put-settled-requires c κs =
@@ -50,7 +52,7 @@ put-settled-requires c κs =
             arith,
             start .pre .text-room,
             counts .put-counts .kept .0,
-            counts .put-counts .ensures .ends,
+            simp length-append at (counts .put-counts .ensures .ends),
             counts-short (start .pre) (accepted .if1 .left) (opened .count-open .ensures),
           );
     }
@@ -86,7 +88,7 @@ put-question-requires c κs =
         arith,
         start .pre .text-room,
         counts .put-counts .kept .0,
-        counts .put-counts .ensures .ends,
+        simp length-append at (counts .put-counts .ensures .ends),
         counts-short (start .pre) (accepted .if1 .left) (opened .count-open .ensures),
       ),
     )

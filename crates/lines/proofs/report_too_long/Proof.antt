@@ -1,9 +1,8 @@
 -- `lines::report_too_long` meets its contract: a line with a number of two digits and one of five fits.
 -- Assumes nothing.
 use native.Mathlib.Omega.{arith}
+use lib.ListN.{length-append}
 use Rattle.buffers.proofs.Decimals.{decimal-written}
-use Rattle.lines.specs.Lines.{capital-R}
-use Rattle.lines.proofs.LineByLine.{line-length}
 use borrow.Author.Needs.{needs}
 use Rattle.lines.proofs.report_too_long.Statement.{statement}
 use Rattle.lines.proofs.report_too_long.Tie as tie
@@ -13,12 +12,12 @@ cast-put-line c = search needs
 
 put-line-requires : tie.Need-put-line-requires
 put-line-requires c κs =
-    omega (
+    simp length-append
+    (omega (
       arith,
-      line-length capital-R 15 32768,
       decimal-written 15 .short 2 (omega arith) (omega arith),
       decimal-written 32768 .short 5 (omega arith) (omega arith),
-    )
+    ))
 
 same-length : tie.Need-same-length
 same-length c = search needs

@@ -3,11 +3,11 @@
 use mathlib.Core.Path.{_≡_}
 use Prim.Native.Nat.{_-_, _≤_}
 use native.Mathlib.Omega.{arith}
-use lib.ListN.{getD, take}
-use Rattle.lines.specs.Lines.{capital-C, classLines}
+use lib.ListN.{getD, take, length-append}
+use Rattle.lines.specs.Lines.{classLines}
 use Rattle.buffers.proofs.Placing.{put-length}
 use Rattle.lines.specs.Put.{LinesPut}
-use Rattle.lines.proofs.LineByLine.{line-short, no-line, class-put}
+use Rattle.lines.proofs.LineByLine.{byte-short, no-line, class-put}
 use Rattle.lines.proofs.listing.put_classes.Statement.{statement}
 use Rattle.lines.proofs.listing.put_classes.Tie as tie
 
@@ -32,13 +32,15 @@ put-line-requires c κs =
     let l = c .before .before .before .loop in
     let start = c .before .before .before .before .before .before in
     let head = c .shared-slice-known2 .given (l .i) in
-    omega (
+    simp length-append
+    (omega (
       arith,
       start .pre .2,
       l .inv .1 .short,
       put-length (l .inv .1 .put),
-      line-short capital-C (l .i) (getD (start .args .heads .now) (l .i) 0) (omega (arith, start .pre .0)) (omega arith),
-    )
+      byte-short (l .i) (omega (arith, start .pre .0)),
+      byte-short (getD (start .args .heads .now) (l .i) 0) (omega arith),
+    ))
 
 add-i : tie.Need-add-i Inv-loop μ-loop
 add-i c = omega arith

@@ -3,11 +3,11 @@
 use mathlib.Core.Path.{_≡_}
 use Prim.Native.Nat.{_+_, _*_, _-_, _≤_}
 use native.Mathlib.Omega.{arith}
-use lib.ListN.{getD}
-use Rattle.lines.specs.Lines.{capital-E, stepLines}
+use lib.ListN.{getD, length-append}
+use Rattle.lines.specs.Lines.{stepLines}
 use Rattle.lines.specs.Put.{LinesPut, pairsIn}
 use Rattle.buffers.proofs.Placing.{put-length}
-use Rattle.lines.proofs.LineByLine.{line-short, no-line, step-put}
+use Rattle.lines.proofs.LineByLine.{byte-short, no-line, step-put}
 use Rattle.lines.proofs.listing.put_steps.Statement.{statement}
 use Rattle.lines.proofs.listing.put_steps.Tie as tie
 
@@ -50,13 +50,15 @@ put-line-requires c κs =
     let i = l .loop .i in
     let lower = c .before .before .shared-slice-known2 .given (2 * i) in
     let upper = c .before .shared-slice-known3 .given (2 * i + 1) in
-    omega (
+    simp length-append
+    (omega (
       arith,
       start .pre .1,
       l .loop .inv .1 .short,
       put-length (l .loop .inv .1 .put),
-      line-short capital-E (getD steps (2 * i) 0) (getD steps (2 * i + 1) 0) (omega arith) (omega arith),
-    )
+      byte-short (getD steps (2 * i) 0) (omega arith),
+      byte-short (getD steps (2 * i + 1) 0) (omega arith),
+    ))
 
 add-i : tie.Need-add-i Inv-loop μ-loop
 add-i c = omega arith

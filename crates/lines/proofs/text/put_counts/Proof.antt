@@ -1,32 +1,20 @@
 -- `lines::text::put_counts` meets its contract: each part stands behind the one before it.
 -- Assumes nothing.
-use mathlib.Core.Path.{_≡_}
-use Prim.Native.Nat.{_+_}
 use native.Mathlib.Omega.{arith}
-use lib.ListN.{length}
-use Rattle.buffers.specs.Decimal.{decimal}
+use lib.ListN.{length-append}
 use Rattle.buffers.proofs.Placing.{put-then}
-use Rattle.lines.specs.Lines.{countsLine}
-use Rattle.lines.proofs.LineByLine.{counts-length}
 use borrow.Author.Needs.{needs}
 use Rattle.lines.proofs.text.put_counts.Statement.{statement}
 use Rattle.lines.proofs.text.put_counts.Tie as tie
 
--- how long the line is
-long :
-    (c : tie.Start) → let s = c .args in
-    length (countsLine (s .classes) (s .tests) (s .pairs))
-    ≡ 9 + length (decimal (s .classes)) + length (decimal (s .tests)) + length (decimal (s .pairs))
-long c = let s = c .args in counts-length (s .classes) (s .tests) (s .pairs)
-
 put-labelled-requires : tie.Need-put-labelled-requires
-put-labelled-requires c κs = omega (arith, c .before .before .pre, long (c .before .before))
+put-labelled-requires c κs = omega (arith, simp length-append at (c .before .before .pre))
 
 put-further-requires : tie.Need-put-further-requires
 put-further-requires c κs =
     let first = c .before .before .before in
     let start = first .before .before .before in
-    omega (arith, start .pre, long start, first .put-labelled .ensures .ends, first .put-labelled .kept .0)
+    omega (arith, simp length-append at (start .pre), first .put-labelled .ensures .ends, first .put-labelled .kept .0)
 
 put-further-requires-2 : tie.Need-put-further-requires-2
 put-further-requires-2 c κs =
@@ -35,8 +23,7 @@ put-further-requires-2 c κs =
     let start = first .before .before .before in
     omega (
       arith,
-      start .pre,
-      long start,
+      simp length-append at (start .pre),
       first .put-labelled .ensures .ends,
       first .put-labelled .kept .0,
       second .put-further .ensures .ends,
@@ -51,8 +38,7 @@ put-byte-requires c κs =
     let start = first .before .before .before in
     omega (
       arith,
-      start .pre,
-      long start,
+      simp length-append at (start .pre),
       first .put-labelled .ensures .ends,
       first .put-labelled .kept .0,
       second .put-further .ensures .ends,

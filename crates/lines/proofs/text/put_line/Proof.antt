@@ -1,31 +1,20 @@
 -- `lines::text::put_line` meets its contract: each part stands behind the one before it.
 -- Assumes nothing.
-use mathlib.Core.Path.{_≡_}
-use Prim.Native.Nat.{_+_}
 use native.Mathlib.Omega.{arith}
-use lib.ListN.{length}
-use Rattle.buffers.specs.Decimal.{decimal}
+use lib.ListN.{length-append}
 use Rattle.buffers.proofs.Placing.{put-then}
-use Rattle.lines.specs.Lines.{line}
-use Rattle.lines.proofs.LineByLine.{line-length}
 use borrow.Author.Needs.{needs}
 use Rattle.lines.proofs.text.put_line.Statement.{statement}
 use Rattle.lines.proofs.text.put_line.Tie as tie
 
--- how long the line is
-long :
-    (c : tie.Start) → let s = c .args in
-    length (line (s .letter) (s .first) (s .second)) ≡ 4 + length (decimal (s .first)) + length (decimal (s .second))
-long c = let s = c .args in line-length (s .letter) (s .first) (s .second)
-
 put-labelled-requires : tie.Need-put-labelled-requires
-put-labelled-requires c κs = omega (arith, c .before .before .pre, long (c .before .before))
+put-labelled-requires c κs = omega (arith, simp length-append at (c .before .before .pre))
 
 put-spaced-requires : tie.Need-put-spaced-requires
 put-spaced-requires c κs =
     let first = c .before .before .before in
     let start = first .before .before .before in
-    omega (arith, start .pre, long start, first .put-labelled .ensures .ends, first .put-labelled .kept .0)
+    omega (arith, simp length-append at (start .pre), first .put-labelled .ensures .ends, first .put-labelled .kept .0)
 
 put-byte-requires : tie.Need-put-byte-requires
 put-byte-requires c κs =
@@ -34,8 +23,7 @@ put-byte-requires c κs =
     let start = first .before .before .before in
     omega (
       arith,
-      start .pre,
-      long start,
+      simp length-append at (start .pre),
       first .put-labelled .ensures .ends,
       first .put-labelled .kept .0,
       second .put-spaced .ensures .ends,
