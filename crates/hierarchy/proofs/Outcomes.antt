@@ -72,8 +72,7 @@ module _ {n : ℕ} {t heads steps : List ℕ} where
 
       front : take (2 * count) listed ≡ bytesOf l
       front =
-          ap (λ (u : List ℕ). take (2 * count) u)
-          (noted .written (omega (arith, all, size, steps-fit (f .table) (l, p, noted))))
+          ap (λ (u : List ℕ). take (2 * count) u) (noted .written (omega (arith, all, size, steps-fit (f .table) (l, p, noted))) .bytes)
           ∙ take-at (bytesOf l) (drop (length (bytesOf l)) out) (2 * count) all
 
       fits : ¬ (TooShort (HeadsOf n t) heads ⊎ TooShort (StepBytes n t) steps)

@@ -1,4 +1,5 @@
 // Groups and direct steps.
+use buffers::copy_front;
 use marks::count_open;
 use promise::Counted;
 use promise::MOST_CLASSES;
@@ -9,7 +10,6 @@ use standing::first_refusal;
 use standing::refused_count;
 use steps::find_heads;
 use steps::list_steps;
-use steps::write_front;
 ghost use Rattle.promise.specs.Calls.{Owed};
 ghost use Rattle.promise.specs.Hierarchy.{hierarchy};
 ghost use Rattle.steps.specs.HeadsFound.{SoundTable};
@@ -34,8 +34,8 @@ fn write_hierarchy(n: usize, table: &[u8], heads: &mut [u8], steps: &mut [u8]) -
     if steps.len() < 2 * count {
         return refused_count(NO_ROOM);
     }
-    write_front(n, &found[..], heads);
-    write_front(2 * count, &listed[..], steps);
+    copy_front(n, &found[..], heads);
+    copy_front(2 * count, &listed[..], steps);
     Counted::Count(count)
 }
 

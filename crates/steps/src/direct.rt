@@ -2,7 +2,7 @@
 use crate::heads::is_head;
 use crate::thirds::find_thirds;
 use crate::thirds::is_above;
-use marks::put_pair;
+use buffers::put_pair;
 use promise::MOST_CLASSES;
 ghost use mathlib.Core.Path.{_≡_};
 ghost use mathlib.Core.Logic.{_↔_};

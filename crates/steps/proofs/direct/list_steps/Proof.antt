@@ -7,7 +7,7 @@ use borrow.Author.Needs.{needs}
 use Rattle.promise.specs.Hierarchy.{Direct}
 use Rattle.promise.proofs.Hierarchy.{direct?}
 use Rattle.marks.proofs.Answers.{refuted, granted, denied}
-use Rattle.marks.proofs.Noting.{SoFar, Along, so-far-none, along-none, few, hit, miss, row-end, all-noted}
+use Rattle.buffers.proofs.Noting.{SoFar, Along, so-far-none, along-none, few, hit, miss, row-end, all-noted}
 use Rattle.steps.proofs.HeadsFound.{head-at}
 use Rattle.steps.proofs.Between.{none-yet, no-steps}
 use Rattle.steps.proofs.direct.list_steps.Statement.{statement}

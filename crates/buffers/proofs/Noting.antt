@@ -1,51 +1,33 @@
 -- Pairs counted and written one after the other, row by row.
 -- Assumes nothing.
-use mathlib.Core.Path.{_≡_, refl, sym, _∙_, ap}
-use mathlib.Core.List.{List, [], _∷_, _++_, append-assoc}
+use mathlib.Core.Path.{_≡_, refl, _∙_, ap}
+use mathlib.Core.List.{List, [], _∷_, _++_}
 use Prim.Native.Nat.{ℕ, _+_, _*_, _≤_, _<_}
 use native.Mathlib.Nat.{mul-le-mul}
 use native.Mathlib.Omega.{arith}
-use lib.ListN.{length, set, length-append}
+use lib.ListN.{length, length-append}
 use Rattle.order.specs.Pairs.{Pair, Lists, bytesOf}
 use Rattle.order.proofs.Pairs.{pairsOf, pairsBefore, before-none, before-hit, before-miss, before-row, before-all, pairs-listed, bytes-append, length-bytes}
 use Rattle.order.proofs.Counting.{before-length}
-use Rattle.promise.specs.Counts.{over}
-use Rattle.promise.proofs.Counts.{over-more}
-use Rattle.marks.specs.Noted.{PairPut, Noted}
+use Rattle.buffers.specs.Noted.{PairPut, Noted}
+use Rattle.buffers.proofs.Placing.{placed-behind}
 
 noted-none : (out : List ℕ) → Noted out [] 0 out
-noted-none out = record { counted = refl; size = refl; written = λ _. refl }
+noted-none out = record { counted = refl; size = refl; written = λ _. record { bytes = refl } }
 
 -- two bytes behind those written are one pair more
-over-pair :
-    (l : List Pair) (out : List ℕ) (a b : ℕ) → length (bytesOf (l ++ (a, b) ∷ [])) ≤ length out
-    → set (set (over (bytesOf l) out) (2 * length l) a) (2 * length l + 1) b ≡ over (bytesOf (l ++ (a, b) ∷ [])) out
-over-pair l out a b room =
-    let w = bytesOf l in
-    let more = bytes-append l ((a, b) ∷ []) in
-    let many = length-bytes l in
-    let all : length (bytesOf (l ++ (a, b) ∷ [])) ≡ 2 * length l + 2 =
-    omega (arith, length-bytes (l ++ (a, b) ∷ []), length-append l ((a, b) ∷ []))
-    in
-    ap (λ (u : List ℕ). set u (2 * length l + 1) b) (over-more w out (2 * length l) a many (omega arith))
-    ∙ over-more (w ++ a ∷ []) out (2 * length l + 1) b (omega (arith, length-append w (a ∷ []))) (omega arith)
-    ∙ ap (λ (u : List ℕ). over u out) (append-assoc w (a ∷ []) (b ∷ []) ∙ sym more)
-
 noted-more :
     {out out₁ out₂ : List ℕ} {l : List Pair} {count : ℕ} (a b : ℕ) → Noted out l count out₁ → length out₂ ≡ length out₁
     → PairPut (2 * count) a b out₁ out₂ → Noted out (l ++ (a, b) ∷ []) (count + 1) out₂
 noted-more {out} {out₁} {out₂} {l} {count} a b h e put =
+    let more = bytes-append l ((a, b) ∷ []) in
+    let many : 2 * count ≡ 0 + length (bytesOf l) = omega (arith, h .counted, length-bytes l) in
     record {
       counted = omega (arith, h .counted, length-append l ((a, b) ∷ []));
       size = e ∙ h .size;
       written = λ room.
-          let all : length (bytesOf (l ++ (a, b) ∷ [])) ≡ length (bytesOf l) + 2 =
-          omega (arith, length-bytes (l ++ (a, b) ∷ []), length-append l ((a, b) ∷ []), length-bytes l)
-          in
-          put .put (omega (arith, h .counted, h .size, length-bytes l))
-          ∙ ap (λ (k : ℕ). set (set out₁ (2 * k) a) (2 * k + 1) b) (h .counted)
-          ∙ ap (λ (u : List ℕ). set (set u (2 * length l) a) (2 * length l + 1) b) (h .written (omega arith))
-          ∙ over-pair l out a b room;
+          let all = ap (λ (u : List ℕ). length u) more ∙ length-append (bytesOf l) (a ∷ b ∷ []) in
+          rw more (placed-behind many (omega arith) (h .written (omega arith)) (put .put (omega (arith, h .size))));
     }
 
 -- the pairs that P has before (a, b) are noted

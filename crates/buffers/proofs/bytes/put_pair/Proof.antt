@@ -1,11 +1,12 @@
--- `marks::pairs::put_pair` meets its contract.
+-- `buffers::bytes::put_pair` meets its contract.
 -- Assumes nothing.
 use mathlib.Core.Path.{refl}
 use native.Mathlib.Omega.{arith}
 use borrow.Author.Needs.{needs}
 use lib.ListN.{length-set}
-use Rattle.marks.proofs.pairs.put_pair.Statement.{statement}
-use Rattle.marks.proofs.pairs.put_pair.Tie as tie
+use Rattle.buffers.proofs.Placing.{put-one, put-then, put-length}
+use Rattle.buffers.proofs.bytes.put_pair.Statement.{statement}
+use Rattle.buffers.proofs.bytes.put_pair.Tie as tie
 
 add-if1 : tie.Need-add-if1
 add-if1 c = search needs
@@ -29,7 +30,13 @@ same-length : tie.Need-same-length
 same-length c = search needs
 
 returns : tie.Need-returns
-returns c = record { put = λ _. refl; kept = λ short. absurd (omega arith) }
+returns c =
+    let s = c .before .args in
+    let first = put-one {at = s .at} {out = s .out .now} (s .a) (omega arith) in
+    record {
+      put = λ _. put-then first (put-one (s .b) (omega (arith, put-length first))) .placed;
+      kept = λ short. absurd (omega arith);
+    }
 
 returns-2 : tie.Need-returns-2
 returns-2 c = record { put = λ room. absurd (omega arith); kept = λ _. refl }
