@@ -2,10 +2,10 @@
 -- Assumes nothing.
 use mathlib.Core.Path.{_≡_, refl, sym, _∙_, ap, ap₂}
 use mathlib.Core.Logic.{_≢_, inl, inr}
-use mathlib.Core.List.{List, [], _∷_, _++_, append-assoc}
+use mathlib.Core.List.{List, [], _∷_, _++_}
 use Prim.Native.Nat.{ℕ, _+_, _*_, _/_, _%_, _≤_, _<_}
 use native.Mathlib.Omega.{arith}
-use lib.ListN.{length, set, length-append}
+use lib.ListN.{length}
 use Rattle.order.specs.Pairs.{Pair, bytesOf}
 use Rattle.order.specs.Refusals.{First}
 use Rattle.order.proofs.Pairs.{lists-unique, pairsOf, before-all, pairs-listed, length-bytes}
@@ -14,15 +14,16 @@ use Rattle.promise.specs.declared.Session.{Session}
 use Rattle.promise.specs.declared.Counted.{Counted}
 use Rattle.promise.specs.declared.Counted.the-variants.{Count, Refused}
 use Rattle.promise.specs.Refusals.{standing}
-use Rattle.promise.specs.Counts.{over}
 use Rattle.promise.specs.Write.{field, Marked, BookOf, writeRefusals, BookWritten}
 use Rattle.promise.proofs.Standing.{Stands, standing-refused, first-stands}
-use Rattle.promise.proofs.Counts.{over-more, writes-refused}
+use Rattle.promise.proofs.Counts.{writes-refused}
 use Rattle.promise.proofs.Write.{Off, off?, book-length, book-longest}
+use Rattle.buffers.specs.Placed.{Put}
+use Rattle.buffers.proofs.Placing.{put-then, put-before}
+use Rattle.buffers.proofs.Parts.{part, replaced, part-length, part-placed}
 use Rattle.marks.specs.Shape.{Shape}
 use Rattle.marks.proofs.Shape.{square}
-use Rattle.book.specs.Fields.{Placed, PairsNoted, FieldFits, FieldPlaced, BookFits, BookPlaced, BookLeft}
-use Rattle.book.proofs.Placing.{part, replaced, part-length, part-placed, placed-before, placed-behind}
+use Rattle.book.specs.Fields.{PairsNoted, FieldFits, FieldPut, BookFits, BookPut, BookLeft}
 
 -- the pairs with one mark are few, for they are at most n * n
 marked-few : (n : ℕ) (t : List ℕ) (m : ℕ) {l : List Pair} → n ≤ 128 → Marked n t m l → length l ≤ 16384
@@ -46,23 +47,22 @@ module _ {n : ℕ} {t : List ℕ} {tag m : ℕ} {out : List ℕ} {at : ℕ} (fit
   pub contents-small : {out₁ out₂ : List ℕ} {count : ℕ} → PairsNoted n t m out₁ count out₂ → 2 * count ≤ 32768
   contents-small (l, listed, noted) = omega (arith, noted .counted, marked-few n t m (fits .shape .few) listed)
 
-  -- its head is placed before its pairs
-  pub field-placed :
-      {u out₂ : List ℕ} {count : ℕ} → PairsNoted n t m (part (at + 3) out) count u
-      → Placed (tag ∷ 2 * count / 256 ∷ 2 * count % 256 ∷ []) at (replaced (at + 3) out u) out₂
-      → FieldPlaced n t tag m out at (at + 3 + 2 * count) out₂
-  field-placed {u} {out₂} {count} (l, listed, noted) head =
+  -- its head is put before its pairs
+  pub field-put :
+      {u out₂ : List ℕ} {count start : ℕ} → PairsNoted n t m (part (at + 3) out) count u
+      → Put (tag ∷ 2 * count / 256 ∷ 2 * count % 256 ∷ []) at (replaced (at + 3) out u) start out₂
+      → FieldPut n t tag m out at (at + 3 + 2 * count) out₂
+  field-put {u} {out₂} {count} {start} (l, listed, noted) head =
       let size : 2 * count ≡ length (bytesOf l) = omega (arith, noted .counted, length-bytes l) in
       let room = fits .room l listed in
+      let contents : Put (bytesOf l) (at + 3) out (at + 3 + 2 * count) (replaced (at + 3) out u) =
       record {
-        pairs = l;
-        listed = listed;
-        placed =
-            placed-before (tag ∷ length (bytesOf l) / 256 ∷ length (bytesOf l) % 256 ∷ []) (bytesOf l) at 3 out refl head-fits
-            (part-placed (at + 3) out (bytesOf l) u (noted .written (omega (arith, part-length (at + 3) out))))
-            (rw size at head);
+        placed = part-placed (at + 3) out (noted .written (omega (arith, part-length (at + 3) out)));
         ends = omega arith;
+        fits = omega arith;
       }
+      in
+      record { pairs = l; listed = listed; put = put-before contents (rw (head .ends, size) at head) }
 
 -- the three fields
 
@@ -88,43 +88,30 @@ module _ {n : ℕ} {t out : List ℕ} (fits : BookFits n t out) where
   pub front-fits : 10 ≤ length out
   front-fits = omega (arith, both-fit (pairs-listed (Off n t 1) (off? n t 1) n) some-no)
 
-  pub yes-fits : (out₁ : List ℕ) → length out₁ ≡ length out → FieldFits n t 2 1 out₁ 4
-  yes-fits out₁ e =
+  pub yes-fits : (out₁ : List ℕ) {at : ℕ} → at ≤ 4 → length out₁ ≡ length out → FieldFits n t 2 1 out₁ at
+  yes-fits out₁ front e =
       record { shape = fits .shape; room = λ l p. omega (arith, length-bytes l, both-fit p some-no) }
 
   pub no-fits :
-      {out₁ : List ℕ} {behind : ℕ} (out₂ : List ℕ) → FieldPlaced n t 2 1 out₁ 4 behind out₂ → length out₂ ≡ length out
-      → FieldFits n t 3 2 out₂ behind
-  no-fits out₂ h e =
+      {out₁ : List ℕ} {at behind : ℕ} (out₂ : List ℕ) → at ≤ 4 → FieldPut n t 2 1 out₁ at behind out₂
+      → length out₂ ≡ length out → FieldFits n t 3 2 out₂ behind
+  no-fits out₂ front h e =
       record {
         shape = fits .shape;
         room = λ l p.
-            omega (arith, h .ends, length-bytes (h .pairs), length-bytes l, both-fit (h .listed) p);
+            omega (arith, h .put .ends, length-bytes (h .pairs), length-bytes l, both-fit (h .listed) p);
       }
 
-  pub book-placed :
-      {out₁ out₂ out₃ : List ℕ} {behind size : ℕ} → Placed (1 ∷ 0 ∷ 1 ∷ []) 0 out out₁
-      → FieldPlaced n t 2 1 (set out₁ 3 n) 4 behind out₂ → FieldPlaced n t 3 2 out₂ behind size out₃
-      → BookPlaced n t out size out₃
-  book-placed {out₁} {out₂} {out₃} {behind} {size} head h k =
-      let first = field 1 (n ∷ []) in
-      let second = field 2 (bytesOf (h .pairs)) in
-      let third = field 3 (bytesOf (k .pairs)) in
-      let one : set out₁ 3 n ≡ over first out =
-      ap (λ (u : List ℕ). set u 3 n) (placed-behind [] out refl refl head)
-      ∙ over-more (1 ∷ 0 ∷ 1 ∷ []) out 3 n refl (omega (arith, front-fits))
-      in
-      let two : out₂ ≡ over (first ++ second) out = placed-behind first out one refl (h .placed) in
-      let three : out₃ ≡ over (first ++ second ++ third) out =
-      placed-behind (first ++ second) out two (omega (arith, h .ends, length-append first second)) (k .placed)
-      in
-      record {
-        book = first ++ (second ++ third);
-        is = book-of (h .listed) (k .listed);
-        long =
-            omega (arith, h .ends, k .ends, length-append first (second ++ third), length-append second third);
-        placed = three ∙ ap (λ (u : List ℕ). over u out) (append-assoc first second third);
-      }
+pub book-put :
+    {n : ℕ} {t out out₁ out₂ out₃ out₄ : List ℕ} {contents facts behind size : ℕ}
+    → Put (1 ∷ 0 ∷ 1 ∷ []) 0 out contents out₁ → Put (n ∷ []) contents out₁ facts out₂
+    → FieldPut n t 2 1 out₂ facts behind out₃ → FieldPut n t 3 2 out₃ behind size out₄ → BookPut n t out size out₄
+book-put head classes h k =
+    record {
+      book = _;
+      is = book-of (h .listed) (k .listed);
+      put = put-then head (put-then classes (put-then (h .put) (k .put)));
+    }
 
 -- the whole call
 
@@ -154,13 +141,13 @@ module _
         record { shape = shape; room = λ book h. omega (arith, counted book h) }
 
 pub book-done :
-    {n : ℕ} {t out out′ : List ℕ} {size : ℕ} → BookFits n t out → BookPlaced n t out size out′
+    {n : ℕ} {t out out′ : List ℕ} {size : ℕ} → BookFits n t out → BookPut n t out size out′
     → BookLeft n t out (Count size) out′
 book-done fits h =
     record {
       number = inr (λ z. omega (arith, z .2, fits .room (z .0) (z .1)), refl);
       place = refl;
-      buffer = (h .book, h .is, h .long, h .placed);
+      buffer = (h .book, h .is, omega (arith, h .put .ends), h .put .placed .bytes);
     }
 
 module _ (s : Session) (t out : List ℕ) where

@@ -1,20 +1,16 @@
 -- What the functions that write the fields of a book need, and what they leave.
 -- Assumes nothing.
-use mathlib.Core.Path.{_≡_}
-use mathlib.Core.List.{List, [], _∷_, _++_}
+use mathlib.Core.List.{List, [], _∷_}
 use Prim.Native.Nat.{ℕ, _+_, _≤_}
-use lib.ListN.{length, take, drop}
+use lib.ListN.{length}
 use Rattle.order.specs.Pairs.{Pair, bytesOf}
 use Rattle.promise.specs.declared.Counted.{Counted}
 use Rattle.promise.specs.Refusals.{noRoom}
-use Rattle.promise.specs.Counts.{over, TooShort, Writes}
+use Rattle.promise.specs.Counts.{TooShort, Writes}
 use Rattle.promise.specs.Write.{field, Marked, BookOf}
+use Rattle.buffers.specs.Placed.{Put}
+use Rattle.buffers.specs.Noted.{Noted}
 use Rattle.marks.specs.Shape.{Shape}
-use Rattle.marks.specs.Noted.{Noted}
-
--- the bytes w stand from index at on, and no other byte is changed
-pub record Placed (w : List ℕ) (at : ℕ) (out out′ : List ℕ) : Type 0 where
-  pub bytes : out′ ≡ take at out ++ (w ++ drop (at + length w) out)
 
 -- the pairs off the diagonal that are marked m were counted, and written if there is room for all of them
 abbrev pub PairsNoted : ℕ → List ℕ → ℕ → List ℕ → ℕ → List ℕ → Type 0
@@ -25,24 +21,22 @@ pub record FieldFits (n : ℕ) (t : List ℕ) (tag m : ℕ) (out : List ℕ) (at
   pub shape : Shape n t
   pub room : (l : List Pair) → Marked n t m l → at + length (field tag (bytesOf l)) ≤ length out
 
--- their field stands there, and it ends before index behind
-pub record FieldPlaced (n : ℕ) (t : List ℕ) (tag m : ℕ) (out : List ℕ) (at behind : ℕ) (out′ : List ℕ) : Type 0 where
+-- their field was put there, up to the index behind
+pub record FieldPut (n : ℕ) (t : List ℕ) (tag m : ℕ) (out : List ℕ) (at behind : ℕ) (out′ : List ℕ) : Type 0 where
   pub pairs : List Pair
   pub listed : Marked n t m pairs
-  pub placed : Placed (field tag (bytesOf pairs)) at out out′
-  pub ends : behind ≡ at + length (field tag (bytesOf pairs))
+  pub put : Put (field tag (bytesOf pairs)) at out behind out′
 
 -- there is room for the book
 pub record BookFits (n : ℕ) (t out : List ℕ) : Type 0 where
   pub shape : Shape n t
   pub room : (book : List ℕ) → BookOf n t book → length book ≤ length out
 
--- the book stands at the front of out, and no other byte is changed
-pub record BookPlaced (n : ℕ) (t out : List ℕ) (size : ℕ) (out′ : List ℕ) : Type 0 where
+-- the book was put at the front of out
+pub record BookPut (n : ℕ) (t out : List ℕ) (size : ℕ) (out′ : List ℕ) : Type 0 where
   pub book : List ℕ
   pub is : BookOf n t book
-  pub long : size ≡ length book
-  pub placed : out′ ≡ over book out
+  pub put : Put book 0 out size out′
 
 -- what write still owes where none of the refusals 1 to 4 is due
 abbrev pub BookLeft : ℕ → List ℕ → List ℕ → Counted → List ℕ → Type 0

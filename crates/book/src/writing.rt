@@ -1,8 +1,9 @@
 // The fact book of a table.
+use buffers::put_byte;
+use buffers::put_pair;
 use marks::NO;
 use marks::YES;
 use marks::is_marked;
-use marks::put_pair;
 use promise::CLASS_COUNT;
 use promise::Counted;
 use promise::NO_FACTS;
@@ -10,16 +11,17 @@ use promise::NO_ROOM;
 use promise::Session;
 use promise::YES_FACTS;
 use standing::first_refusal;
-use standing::refused;
+use standing::refused_count;
 ghost use mathlib.Core.List.{[], _∷_};
 ghost use Prim.Native.Nat.{_+_, _/_, _%_, _<_, _≤_};
 ghost use lib.ListN.{length};
 ghost use Rattle.promise.specs.Write.{BookWritten};
+ghost use Rattle.buffers.specs.Placed.{Put};
 ghost use Rattle.marks.specs.Shape.{Shape};
-ghost use Rattle.book.specs.Fields.{Placed, PairsNoted, FieldFits, FieldPlaced, BookFits, BookPlaced, BookLeft};
+ghost use Rattle.book.specs.Fields.{PairsNoted, FieldFits, FieldPut, BookFits, BookPut, BookLeft};
 
-// Counts the pairs off the diagonal that have a mark. Each is written, two bytes, in row order, if it fits: a buffer with room for all gets
-// all, and an empty one serves to count.
+// Counts the pairs off the diagonal that have a mark. Each is written, two bytes, in row order, if it fits: a buffer
+// with room for all gets all, and an empty one serves to count.
 fn list_marked(n: usize, table: &[u8], wanted: u8, out: &mut [u8]) -> usize
     requires { ⌜ Shape n (now table) ⌝ }
     ensures { λ r. ⌜ PairsNoted n (now (table .entry)) wanted (now (out .entry)) r (now (out .exit)) ⌝ }
@@ -39,20 +41,21 @@ fn list_marked(n: usize, table: &[u8], wanted: u8, out: &mut [u8]) -> usize
     count
 }
 
-// The three head bytes of a field: its tag, and the length of its contents, the high byte first.
-fn write_head(out: &mut [u8], at: usize, tag: u8, size: usize)
+// The three head bytes of a field: its tag, and the length of its contents, the high byte first. Gives the index
+// behind them.
+fn write_head(out: &mut [u8], at: usize, tag: u8, size: usize) -> usize
     requires { ⌜ (at + 3 ≤ length (now out)) × (size < 65536) ⌝ }
-    ensures { λ _. ⌜ Placed (tag ∷ size / 256 ∷ size % 256 ∷ []) at (now (out .entry)) (now (out .exit)) ⌝ }
+    ensures { λ r. ⌜ Put (tag ∷ size / 256 ∷ size % 256 ∷ []) at (now (out .entry)) r (now (out .exit)) ⌝ }
 {
-    out[at] = tag;
-    out[at + 1] = (size / 256) as u8;
-    out[at + 2] = (size % 256) as u8;
+    let high = put_byte(&mut *out, at, tag);
+    let low = put_byte(&mut *out, high, (size / 256) as u8);
+    put_byte(out, low, (size % 256) as u8)
 }
 
 // The field with the pairs off the diagonal that have a mark, from index at on. Gives the index behind it.
 fn write_field(n: usize, table: &[u8], tag: u8, wanted: u8, out: &mut [u8], at: usize) -> usize
     requires { ⌜ FieldFits n (now table) tag wanted (now out) at ⌝ }
-    ensures { λ r. ⌜ FieldPlaced n (now (table .entry)) tag wanted (now (out .entry)) at r (now (out .exit)) ⌝ }
+    ensures { λ r. ⌜ FieldPut n (now (table .entry)) tag wanted (now (out .entry)) at r (now (out .exit)) ⌝ }
 {
     let start = at + 3;
     let count = list_marked(n, table, wanted, &mut out[start..]);
@@ -64,15 +67,16 @@ fn write_field(n: usize, table: &[u8], tag: u8, wanted: u8, out: &mut [u8], at: 
 // The three fields of a book that has room. Gives its length.
 fn write_fields(n: usize, table: &[u8], out: &mut [u8]) -> usize
     requires { ⌜ BookFits n (now table) (now out) ⌝ }
-    ensures { λ r. ⌜ BookPlaced n (now (table .entry)) (now (out .entry)) r (now (out .exit)) ⌝ }
+    ensures { λ r. ⌜ BookPut n (now (table .entry)) (now (out .entry)) r (now (out .exit)) ⌝ }
 {
-    write_head(&mut *out, 0, CLASS_COUNT, 1);
-    out[3] = n as u8;
-    let behind = write_field(n, table, YES_FACTS, YES, &mut *out, 4);
+    let contents = write_head(&mut *out, 0, CLASS_COUNT, 1);
+    let facts = put_byte(&mut *out, contents, n as u8);
+    let behind = write_field(n, table, YES_FACTS, YES, &mut *out, facts);
     write_field(n, table, NO_FACTS, NO, out, behind)
 }
 
-// The book of a table, where only 8 may still be due. Its pairs are counted before any byte is written, over an empty part of the buffer.
+// The book of a table, where only 8 may still be due. Its pairs are counted before any byte is written, over an empty
+// part of the buffer.
 fn write_book(n: usize, table: &[u8], out: &mut [u8]) -> Counted
     requires { ⌜ Shape n (now table) ⌝ }
     ensures { λ r. ⌜ BookLeft n (now (table .entry)) (now (out .entry)) r (now (out .exit)) ⌝ }
@@ -80,19 +84,20 @@ fn write_book(n: usize, table: &[u8], out: &mut [u8]) -> Counted
     let yes = list_marked(n, table, YES, &mut out[..0]);
     let no = list_marked(n, table, NO, &mut out[..0]);
     if out.len() < 10 + 2 * (yes + no) {
-        return refused(NO_ROOM);
+        return refused_count(NO_ROOM);
     }
     let size = write_fields(n, table, out);
     Counted::Count(size)
 }
 
-// Writes the book of a table, and gives its length. Refuses with 1 to 4, and with 8 if the buffer is too short; then no byte is written.
+// Writes the book of a table, and gives its length. Refuses with 1 to 4, and with 8 if the buffer is too short; then no
+// byte is written.
 pub fn write(session: Session, table: &[u8], out: &mut [u8]) -> Counted
     ensures { λ r. ⌜ BookWritten session (now (table .entry)) (now (out .entry)) r (now (out .exit)) ⌝ }
 {
     let number = first_refusal(session, table);
     if number != 0 {
-        return refused(number);
+        return refused_count(number);
     }
     let n = session.classes;
     write_book(n, table, out)

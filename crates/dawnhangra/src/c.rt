@@ -1,38 +1,21 @@
 // The calls for C: a buffer is a pointer and a length, and the answers that are enums cross as structs.
 use promise::Counted;
+use promise::Counted;
+use promise::CrossedCount;
+use promise::CrossedQuestion;
 use promise::Question;
 use promise::Reply;
 use promise::Session;
 ghost use mathlib.Core.Path.{_≡_};
-ghost use Rattle.promise.specs.Fresh.{Freshened};
-ghost use Rattle.promise.specs.Tell.{Told, Answered};
-ghost use Rattle.promise.specs.Clips.{ClippedByBytes};
-ghost use Rattle.promise.specs.Next.{Asked};
-ghost use Rattle.promise.specs.Hierarchy.{HierarchyWritten};
-ghost use Rattle.promise.specs.Ladder.{LadderWritten};
-ghost use Rattle.promise.specs.Read.{BookRead};
-ghost use Rattle.promise.specs.Write.{BookWritten};
-ghost use Rattle.session.specs.Facts.{factOn};
-ghost use Rattle.dawnhangra.specs.Crossing.{questionFor, countFor, SameQuestion, SameCount};
-
-// What next gives: the refusal number, 0 where there is none, and its place; whether a pair is asked about, and which.
-#[repr(C)]
-pub struct CrossedQuestion {
-    pub number: u8,
-    pub place: usize,
-    pub asks: bool,
-    pub lower: usize,
-    pub upper: usize,
-}
-
-// What hierarchy, ladder and write give: the refusal number, 0 where there is none, and its place; how many steps, rungs or bytes were
-// written.
-#[repr(C)]
-pub struct CrossedCount {
-    pub number: u8,
-    pub place: usize,
-    pub count: usize,
-}
+ghost use Rattle.order.specs.Facts.{factOn};
+ghost use Rattle.promise.specs.Calls.{Owed};
+ghost use Rattle.promise.specs.Tell.{Kind, fresh, tell};
+ghost use Rattle.promise.specs.Clips.{clipBytes};
+ghost use Rattle.promise.specs.Next.{questionFor, nextForC};
+ghost use Rattle.promise.specs.Counts.{countFor, countForC, writesForC, openPairs};
+ghost use Rattle.promise.specs.Hierarchy.{hierarchy, ladder};
+ghost use Rattle.promise.specs.Book.{BookRead};
+ghost use Rattle.promise.specs.Write.{write};
 
 // A question as C gets it.
 fn crossed_question(question: Question) -> CrossedQuestion
@@ -64,10 +47,10 @@ fn crossed_question(question: Question) -> CrossedQuestion
 }
 
 // A count as C gets it.
-fn crossed_count(wrote: Counted) -> CrossedCount
-    ensures { λ r. ⌜ r ≡ countFor wrote ⌝ }
+fn crossed_count(counted: Counted) -> CrossedCount
+    ensures { λ r. ⌜ r ≡ countFor counted ⌝ }
 {
-    match wrote {
+    match counted {
         Counted::Count(count) => CrossedCount {
             number: 0,
             place: 0,
@@ -81,15 +64,15 @@ fn crossed_count(wrote: Counted) -> CrossedCount
     }
 }
 
-// The call fresh.
+// Starts a table.
 #[no_mangle]
 pub extern "C" fn dawnhangra_fresh(classes: usize, table: &mut [u8]) -> Reply
-    ensures { λ r. ⌜ Freshened classes (now (table .entry)) r (now (table .exit)) ⌝ }
+    ensures { λ r. ⌜ Owed (fresh classes (now (table .entry))) (r, now (table .exit)) ⌝ }
 {
     session::fresh(classes, table)
 }
 
-// The call tell.
+// Takes a fact in that is told.
 #[no_mangle]
 pub extern "C" fn dawnhangra_tell(
     session: Session,
@@ -98,12 +81,12 @@ pub extern "C" fn dawnhangra_tell(
     upper: usize,
     holds: bool,
 ) -> Reply
-    ensures { λ r. ⌜ Told session (now (table .entry)) (factOn lower upper holds) r (now (table .exit)) ⌝ }
+    ensures { λ r. ⌜ Owed (tell Kind.told session (now (table .entry)) (factOn lower upper holds)) (r, now (table .exit)) ⌝ }
 {
     session::tell(session, table, lower, upper, holds)
 }
 
-// The call answer.
+// Takes a fact in that a test gave.
 #[no_mangle]
 pub extern "C" fn dawnhangra_answer(
     session: Session,
@@ -112,28 +95,36 @@ pub extern "C" fn dawnhangra_answer(
     upper: usize,
     holds: bool,
 ) -> Reply
-    ensures { λ r. ⌜ Answered session (now (table .entry)) (factOn lower upper holds) r (now (table .exit)) ⌝ }
+    ensures { λ r. ⌜ Owed (tell Kind.answered session (now (table .entry)) (factOn lower upper holds)) (r, now (table .exit)) ⌝ }
 {
     session::answer(session, table, lower, upper, holds)
 }
 
-// The call clip, with a byte for each flag.
+// Takes a clip in, with a byte for each flag.
 #[no_mangle]
 pub extern "C" fn dawnhangra_clip(session: Session, table: &mut [u8], played: &[u8]) -> Reply
-    ensures { λ r. ⌜ ClippedByBytes session (now (table .entry)) (now (played .entry)) r (now (table .exit)) ⌝ }
+    ensures { λ r. ⌜ Owed (clipBytes session (now (table .entry)) (now (played .entry))) (r, now (table .exit)) ⌝ }
 {
     clips::clip_bytes(session, table, played)
 }
 
-// The call next.
+// Names the first open pair.
 #[no_mangle]
 pub extern "C" fn dawnhangra_next(session: Session, table: &[u8]) -> CrossedQuestion
-    ensures { λ r. ⌜ SameQuestion (λ q. Asked session (now (table .entry)) q) r ⌝ }
+    ensures { λ r. ⌜ Owed (nextForC session (now (table .entry))) r ⌝ }
 {
     crossed_question(session::next(session, table))
 }
 
-// The call hierarchy.
+// Counts the open pairs.
+#[no_mangle]
+pub extern "C" fn dawnhangra_open_pairs(session: Session, table: &[u8]) -> CrossedCount
+    ensures { λ r. ⌜ Owed (countForC (openPairs session (now (table .entry)))) r ⌝ }
+{
+    crossed_count(session::open_pairs(session, table))
+}
+
+// Writes heads and direct steps.
 #[no_mangle]
 pub extern "C" fn dawnhangra_hierarchy(
     session: Session,
@@ -141,13 +132,13 @@ pub extern "C" fn dawnhangra_hierarchy(
     heads: &mut [u8],
     steps: &mut [u8],
 ) -> CrossedCount
-    ensures { λ r. ⌜ SameCount (λ w. HierarchyWritten session (now (table .entry)) (now (heads .entry)) (now (steps .entry)) w
-        (now (heads .exit)) (now (steps .exit))) r ⌝ }
+    ensures { λ r. ⌜ Owed (writesForC (hierarchy session (now (table .entry)) (now (heads .entry)) (now (steps .entry))))
+        (r, (now (heads .exit), now (steps .exit))) ⌝ }
 {
     crossed_count(hierarchy::hierarchy(session, table, heads, steps))
 }
 
-// The call ladder.
+// Writes the rungs from one class to another.
 #[no_mangle]
 pub extern "C" fn dawnhangra_ladder(
     session: Session,
@@ -156,12 +147,13 @@ pub extern "C" fn dawnhangra_ladder(
     upper: usize,
     rungs: &mut [u8],
 ) -> CrossedCount
-    ensures { λ r. ⌜ SameCount (λ w. LadderWritten session (now (table .entry)) lower upper (now (rungs .entry)) w (now (rungs .exit))) r ⌝ }
+    ensures { λ r. ⌜ Owed (writesForC (ladder session (now (table .entry)) lower upper (now (rungs .entry))))
+        (r, now (rungs .exit)) ⌝ }
 {
     crossed_count(hierarchy::ladder(session, table, lower, upper, rungs))
 }
 
-// The call read.
+// Reads a book onto a fresh table.
 #[no_mangle]
 pub extern "C" fn dawnhangra_read(book: &[u8], table: &mut [u8]) -> Reply
     ensures { λ r. ⌜ BookRead (now (book .entry)) (now (table .entry)) r (now (table .exit)) ⌝ }
@@ -169,10 +161,10 @@ pub extern "C" fn dawnhangra_read(book: &[u8], table: &mut [u8]) -> Reply
     book::read(book, table)
 }
 
-// The call write.
+// Writes the book of a table.
 #[no_mangle]
 pub extern "C" fn dawnhangra_write(session: Session, table: &[u8], out: &mut [u8]) -> CrossedCount
-    ensures { λ r. ⌜ SameCount (λ w. BookWritten session (now (table .entry)) (now (out .entry)) w (now (out .exit))) r ⌝ }
+    ensures { λ r. ⌜ Owed (writesForC (write session (now (table .entry)) (now (out .entry)))) (r, now (out .exit)) ⌝ }
 {
     crossed_count(book::write(session, table, out))
 }

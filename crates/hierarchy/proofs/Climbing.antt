@@ -8,7 +8,7 @@ use native.Mathlib.Omega.{arith}
 use lib.ListN.{length, getD, set, take, drop, take-append-drop}
 use lib.Seq.{length-take-le, take-suc, append-snoc, set-append-left, set-at}
 use Rattle.promise.specs.Hierarchy.{HeadOf}
-use Rattle.promise.specs.Ladder.{NextRung, Ladder}
+use Rattle.promise.specs.Hierarchy.{NextRung, Ladder}
 use Rattle.promise.proofs.Hierarchy.{head-unique}
 use Rattle.promise.proofs.Ladder.{to-go, rung-falls, head-of-equal}
 use Rattle.steps.specs.HeadsFound.{HeadsFound}
@@ -87,33 +87,35 @@ module _ {n : ℕ} {t : List ℕ} {goal rung before : ℕ} {out : List ℕ} wher
           unwritten = h .unwritten;
         }
 
-module _ {n : ℕ} {t heads : List ℕ} {goal rung before : ℕ} (f : HeadsFound n t heads) (r : Reached n t goal rung before) where
-  -- at the goal's head the ladder ends; below it there is a next rung
-  pub at-top : rung ≡ getD heads goal 0 → HeadOf n t goal rung
-  at-top e = rw (← e) at (f .at goal (r .goal-below))
+module _
+    {n : ℕ} {t heads : List ℕ} {goal rung before : ℕ} (f : HeadsFound n t heads) (r : Reached n t goal rung before)
+  where
+    -- at the goal's head the ladder ends; below it there is a next rung
+    pub at-top : rung ≡ getD heads goal 0 → HeadOf n t goal rung
+    at-top e = rw (← e) at (f .at goal (r .goal-below))
 
-  pub not-top : ¬ (rung ≡ getD heads goal 0) → BelowGoal n t goal rung
-  not-top differ =
-      record {
-        goal-below = r .goal-below;
-        head = r .head;
-        under = r .under;
-        not-yet = λ back.
-            differ
-            (head-unique (head-of-equal n t (f .table .sound) (r .goal-below) (r .head) (r .under) back)
-            (f .at goal (r .goal-below)));
-      }
+    pub not-top : ¬ (rung ≡ getD heads goal 0) → BelowGoal n t goal rung
+    not-top differ =
+        record {
+          goal-below = r .goal-below;
+          head = r .head;
+          under = r .under;
+          not-yet = λ back.
+              differ
+              (head-unique (head-of-equal n t (f .table .sound) (r .goal-below) (r .head) (r .under) back)
+              (f .at goal (r .goal-below)));
+        }
 
-  -- "the number of heads strictly above the rung and under the goal falls"
-  pub next-reached : {next : ℕ} → NextRung n t goal rung next → Reached n t goal next (before + 1)
-  next-reached {next} d =
-      let left = to-go n t goal next in
-      let falls = rung-falls n t (f .table .sound) d (left .1) (r .number) in
-      record {
-        goal-below = r .goal-below;
-        head = d .direct .to;
-        under = d .under;
-        left = left .0;
-        number = left .1;
-        few = omega (arith, r .few);
-      }
+    -- "the number of heads strictly above the rung and under the goal falls"
+    pub next-reached : {next : ℕ} → NextRung n t goal rung next → Reached n t goal next (before + 1)
+    next-reached {next} d =
+        let left = to-go n t goal next in
+        let falls = rung-falls n t (f .table .sound) d (left .1) (r .number) in
+        record {
+          goal-below = r .goal-below;
+          head = d .direct .to;
+          under = d .under;
+          left = left .0;
+          number = left .1;
+          few = omega (arith, r .few);
+        }

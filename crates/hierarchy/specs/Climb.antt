@@ -5,7 +5,7 @@ use mathlib.Core.List.{List, _++_}
 use Prim.Native.Nat.{ℕ, _+_, _≤_, _<_}
 use lib.ListN.{length, take, drop}
 use Rattle.promise.specs.Hierarchy.{Under, Head}
-use Rattle.promise.specs.Ladder.{Ladder, Above, Number}
+use Rattle.promise.specs.Hierarchy.{Ladder, Above, Number}
 
 -- rung is a head under the goal, but not the goal's own head
 pub record BelowGoal (n : ℕ) (t : List ℕ) (goal rung : ℕ) : Type 0 where

@@ -8,7 +8,7 @@ ghost use mathlib.Core.Logic.{_↔_};
 ghost use mathlib.Core.Bool.{true};
 ghost use Prim.Native.Nat.{_<_};
 ghost use Rattle.promise.specs.Hierarchy.{Under, Head, Direct};
-ghost use Rattle.promise.specs.Ladder.{NextRung};
+ghost use Rattle.promise.specs.Hierarchy.{NextRung};
 ghost use Rattle.steps.specs.HeadsFound.{HeadsFound};
 ghost use Rattle.steps.specs.Between.{ThirdsOf};
 ghost use Rattle.hierarchy.specs.Climb.{BelowGoal, Reached, Climbed};

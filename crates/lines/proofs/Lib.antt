@@ -1,5 +1,3 @@
-pub mod Putting
 pub mod LineByLine
 pub mod Saying
 pub mod Only
-pub mod Decimals

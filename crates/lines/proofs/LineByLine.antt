@@ -8,36 +8,29 @@ use native.Mathlib.Omega.{arith}
 use lib.ListN.{length, getD, take, length-append}
 use lib.Seq.{take-suc, take-all, length-take-le}
 use Rattle.order.specs.Pairs.{Pair, bytesOf}
-use Rattle.lines.specs.Lines.{spaced, labelled, line, line-feed, capital-C, capital-E, classLines, stepLines}
-use Rattle.lines.specs.Put.{Put, pairsIn}
-use Rattle.lines.proofs.Putting.{put-none, put-then, decimal-short}
+use Rattle.buffers.specs.Placed.{Put}
+use Rattle.buffers.specs.Decimal.{decimal}
+use Rattle.buffers.proofs.Placing.{put-none, put-then}
+use Rattle.buffers.proofs.Decimals.{decimal-written}
+use Rattle.lines.specs.Lines.{line, capital-C, capital-E, classLines, stepLines}
+use Rattle.lines.specs.Put.{LinesPut, pairsIn}
 
-pub line-short : (letter x y : ℕ) → length (line letter x y) ≤ 14
-line-short letter x y =
-    omega (
-      arith,
-      length-append (labelled letter x) (spaced y ++ (line-feed ∷ [])),
-      length-append (spaced y) (line-feed ∷ []),
-      decimal-short x,
-      decimal-short y,
-    )
-
--- k lines w were put, each of at most 14 bytes
-pub record LinesPut (k : ℕ) (w : List ℕ) (at : ℕ) (text : List ℕ) (behind : ℕ) (text′ : List ℕ) : Type 0 where
-  pub put : Put w at text behind text′
-  pub short : behind ≤ at + 14 * k
+-- a byte has at most three digits
+pub byte-short : (x : ℕ) → x < 256 → length (decimal x) ≤ 3
+byte-short x h = decimal-written x .short 3 (omega arith) (omega arith)
 
 pub no-line : {at : ℕ} {text : List ℕ} → at ≤ length text → LinesPut 0 [] at text at text
 no-line h = record { put = put-none h; short = omega arith }
 
+-- the line of two bytes more was put
 one-more :
-    {k : ℕ} {w w′ : List ℕ} {at : ℕ} {text : List ℕ} {behind : ℕ} {text₁ : List ℕ} {end : ℕ} {text₂ : List ℕ} (letter x y : ℕ)
-    → w ++ line letter x y ≡ w′ → LinesPut k w at text behind text₁ → Put (line letter x y) behind text₁ end text₂
-    → LinesPut (k + 1) w′ at text end text₂
-one-more {at = at} {text = text} {end = end} {text₂ = text₂} letter x y e h p =
+    {k : ℕ} {w w′ : List ℕ} {at : ℕ} {text : List ℕ} {behind : ℕ} {text₁ : List ℕ} {end : ℕ} {text₂ : List ℕ}
+    (letter x y : ℕ) → x < 256 → y < 256 → w ++ line letter x y ≡ w′ → LinesPut k w at text behind text₁
+    → Put (line letter x y) behind text₁ end text₂ → LinesPut (k + 1) w′ at text end text₂
+one-more {at = at} {text = text} {end = end} {text₂ = text₂} letter x y hx hy e h p =
     record {
       put = subst (λ (u : List ℕ). Put u at text end text₂) e (put-then (h .put) p);
-      short = omega (arith, h .short, p .ends, line-short letter x y);
+      short = omega (arith, h .short, simp length-append at (p .ends), byte-short x hx, byte-short y hy);
     }
 
 classes-behind :
@@ -63,10 +56,11 @@ class-more i heads h =
 
 -- the line of one class more was put
 pub class-put :
-    {at : ℕ} {text : List ℕ} {behind : ℕ} {text₁ : List ℕ} {end : ℕ} {text₂ : List ℕ} (i : ℕ) (heads : List ℕ) → i < length heads
-    → LinesPut i (classLines 0 (take i heads)) at text behind text₁ → Put (line capital-C i (getD heads i 0)) behind text₁ end text₂
+    {at : ℕ} {text : List ℕ} {behind : ℕ} {text₁ : List ℕ} {end : ℕ} {text₂ : List ℕ} (i : ℕ) (heads : List ℕ)
+    → i < length heads → i < 256 → getD heads i 0 < 256 → LinesPut i (classLines 0 (take i heads)) at text behind text₁
+    → Put (line capital-C i (getD heads i 0)) behind text₁ end text₂
     → LinesPut (i + 1) (classLines 0 (take (i + 1) heads)) at text end text₂
-class-put i heads h = one-more capital-C i (getD heads i 0) (class-more i heads h)
+class-put i heads h few byte = one-more capital-C i (getD heads i 0) few byte (class-more i heads h)
 
 steps-behind :
     (l : List Pair) (p : Pair) → stepLines l ++ line capital-E (p .0) (p .1) ≡ stepLines (l ++ p ∷ [])
@@ -86,16 +80,12 @@ step-more i bytes =
 -- the line of one step more was put
 pub step-put :
     {at : ℕ} {text : List ℕ} {behind : ℕ} {text₁ : List ℕ} {end : ℕ} {text₂ : List ℕ} (i : ℕ) (bytes : List ℕ)
+    → getD bytes (2 * i) 0 < 256 → getD bytes (2 * i + 1) 0 < 256
     → LinesPut i (stepLines (pairsIn i bytes)) at text behind text₁
     → Put (line capital-E (getD bytes (2 * i) 0) (getD bytes (2 * i + 1) 0)) behind text₁ end text₂
     → LinesPut (i + 1) (stepLines (pairsIn (i + 1) bytes)) at text end text₂
-step-put i bytes = one-more capital-E (getD bytes (2 * i) 0) (getD bytes (2 * i + 1) 0) (step-more i bytes)
-
--- how long the lines of the classes are at most
-pub class-lines-short : (j : ℕ) (l : List ℕ) → length (classLines j l) ≤ 14 * length l
-class-lines-short j [] = omega arith
-class-lines-short j (h ∷ l) =
-    omega (arith, length-append (line capital-C j h) (classLines (suc j) l), line-short capital-C j h, class-lines-short (suc j) l)
+step-put i bytes lower upper =
+    one-more capital-E (getD bytes (2 * i) 0) (getD bytes (2 * i + 1) 0) lower upper (step-more i bytes)
 
 -- the first and the second class of a pair stand in the bytes of the list at twice its index, and behind
 pair-at :

@@ -2,11 +2,11 @@
 -- Assumes nothing.
 use mathlib.Core.Path.{_≡_, refl, sym, _∙_, ap}
 use mathlib.Core.Logic.{_≢_, inl, inr}
-use mathlib.Core.List.{List, [], _∷_, _++_}
-use Prim.Native.Nat.{ℕ, _+_, _*_, _≤_, _<_}
+use mathlib.Core.List.{List, []}
+use Prim.Native.Nat.{ℕ, _+_, _≤_, _<_}
 use native.Mathlib.Omega.{arith}
-use native.Mathlib.Nat.{mul-le-mul, min-le-left}
-use lib.ListN.{length, take, length-append, length-take}
+use native.Mathlib.Nat.{mul-le-mul}
+use lib.ListN.{length, take}
 use lib.Seq.{take-at}
 use Rattle.order.specs.Tables.{opens}
 use Rattle.order.specs.Pairs.{bytesOf}
@@ -24,29 +24,32 @@ use Rattle.promise.specs.Hierarchy.{hierarchyRefusals, HierarchyWritten}
 use Rattle.promise.proofs.Standing.{Stands, standing-passed, stands-first}
 use Rattle.promise.proofs.Next.{done-exactly}
 use Rattle.promise.proofs.Triangles.{steps-few, hierarchy-room}
+use Rattle.buffers.specs.Placed.{Put}
+use Rattle.buffers.specs.Decimal.{decimal}
+use Rattle.buffers.proofs.Placing.{put-then}
+use Rattle.buffers.proofs.Decimals.{decimal-written}
 use Rattle.marks.specs.Shape.{Shape}
-use Rattle.lines.specs.Lines.{labelled, countsLine, refusalLine, Shows, capital-N, capital-T, capital-O, space, line-feed, classLines, stepLines}
-use Rattle.lines.specs.Put.{Put, pairsIn, QuestionPut, Settled, SettledPut, Reportable, Reported}
-use Rattle.lines.proofs.Putting.{put-then, decimal-short}
-use Rattle.lines.proofs.LineByLine.{pairs-back, class-lines-short}
-
-pub counts-short : (n t o : ℕ) → length (countsLine n t o) ≤ 24
-counts-short n t o =
-    let last : List ℕ = labelled capital-O o ++ (line-feed ∷ []) in
-    omega (
-      arith,
-      length-append (labelled capital-N n) (space ∷ labelled capital-T t ++ (space ∷ last)),
-      length-append (labelled capital-T t) (space ∷ last),
-      length-append (labelled capital-O o) (line-feed ∷ []),
-      decimal-short n,
-      decimal-short t,
-      decimal-short o,
-    )
+use Rattle.marks.proofs.Shape.{square}
+use Rattle.lines.specs.Lines.{countsLine, refusalLine, Shows, classLines, stepLines}
+use Rattle.lines.specs.Put.{LinesPut, pairsIn, QuestionPut, Settled, SettledPut, Reportable, Reported}
+use Rattle.lines.proofs.LineByLine.{byte-short, pairs-back}
 
 -- the pair asked about is the first open one
 pub asked-first :
     {s : Session} {t : List ℕ} {q : Question} {a b : ℕ} → Asked s t q → q ≡ Ask a b → FirstOpen (s .classes) t a b
 asked-first {s} {t} h e = (rw e at h) .says
+
+-- and its numbers are short
+pub question-short :
+    (s : Session) {t : List ℕ} {a b : ℕ} → First (standing s t []) 0 → FirstOpen (s .classes) t a b
+    → length (decimal a) + length (decimal b) ≤ 6
+question-short s {a = a} {b = b} st p =
+    let few = standing-passed [] st .0 .few in
+    omega (
+      arith,
+      byte-short a (omega (arith, p .lower-below)),
+      byte-short b (omega (arith, p .upper-below)),
+    )
 
 -- where a pair is open next is not done
 pub never-done : {s : Session} {t : List ℕ} {q : Question} → 0 < opens (s .classes) t → Asked s t q → q ≡ Done → ⊥
@@ -64,20 +67,6 @@ module _ {s : Session} {t heads steps text : List ℕ} {at : ℕ} (ready : Settl
 
   pub classes-few : s .classes ≤ 128
   classes-few = stands .few
-
-  -- the lines of the classes leave room for those of the steps
-  pub classes-end :
-      (heads′ : List ℕ) {behind : ℕ} {text₁ : List ℕ} → Put (classLines 0 (take (s .classes) heads′)) at text behind text₁
-      → behind ≤ at + 14 * 128
-  classes-end heads′ h =
-      omega (
-        arith,
-        stands .few,
-        h .ends,
-        class-lines-short 0 (take (s .classes) heads′),
-        length-take (s .classes) heads′,
-        min-le-left (s .classes) (length heads′),
-      )
 
   module _ {w : Counted} {heads′ steps′ : List ℕ} (h : HierarchyWritten s t heads steps w heads′ steps′) where
     -- where no pair is open and there is room hierarchy refuses nothing
@@ -106,8 +95,8 @@ module _ {s : Session} {t heads steps text : List ℕ} {at : ℕ} (ready : Settl
     -- the lines of what was written say what they should
     pub settled-put :
         {count behind end : ℕ} {text₁ text₂ : List ℕ} → w ≡ Count count
-        → Put (classLines 0 (take (s .classes) heads′)) at text behind text₁
-        → Put (stepLines (pairsIn count steps′)) behind text₁ end text₂ → SettledPut (s .classes) t at text end text₂
+        → LinesPut (s .classes) (classLines 0 (take (s .classes) heads′)) at text behind text₁
+        → LinesPut count (stepLines (pairsIn count steps′)) behind text₁ end text₂ → SettledPut (s .classes) t at text end text₂
     settled-put {count} {behind} {end} {text₁} {text₂} e classes listed =
         let (found, (l, is, long, wrote)) = (rw e at h) .buffers in
         let same-heads : take (s .classes) heads′ ≡ found .0 =
@@ -121,7 +110,7 @@ module _ {s : Session} {t heads steps text : List ℕ} {at : ℕ} (ready : Settl
           steps = l;
           heads-of = found .1;
           steps-of = is;
-          put = put-then (rw same-heads at classes) (rw same-steps at listed);
+          put = put-then (rw same-heads at (classes .put)) (rw same-steps at (listed .put));
         }
 
 -- the table of an accepted book has its shape
@@ -130,6 +119,22 @@ pub ready-shape :
 ready-shape {r} ready accepted =
     let st = standing-passed [] (ready .stands accepted) .0 in
     record { few = st .few; room = st .room }
+
+-- and its counts are short, for they are below 100,000
+pub counts-short :
+    {r : Reply} {t heads steps text : List ℕ} {count : ℕ} → Reportable r t heads steps text → r .number ≡ 0
+    → count ≡ opens (r .session .classes) t
+    → length (decimal (r .session .classes)) + length (decimal (r .session .tests)) + length (decimal count) ≤ 13
+counts-short {r} {t} {count = count} ready accepted same =
+    let s = r .session in
+    let st = standing-passed [] (ready .stands accepted) .0 in
+    let few = square (s .classes) (st .few) in
+    omega (
+      arith,
+      byte-short (s .classes) (omega (arith, st .few)),
+      decimal-written (s .tests) .short 5 (omega arith) (omega (arith, st .count)),
+      decimal-written count .short 5 (omega arith) (omega (arith, st .count)),
+    )
 
 -- the line of a refused book
 pub reported-refused :

@@ -2,10 +2,8 @@
 -- Assumes nothing.
 use mathlib.Core.Path.{_≡_}
 use mathlib.Core.Logic.{_≢_}
-use mathlib.Core.Bool.{Bool, true, false}
 use mathlib.Core.List.{List, [], _∷_, _++_}
-use Prim.Native.Nat.{ℕ, suc, _+_, _*_, _/_, _%_}
-use lib.Dec.{ltb}
+use Prim.Native.Nat.{ℕ, suc, _*_}
 use lib.ListN.{take}
 use Rattle.order.specs.Tables.{opens}
 use Rattle.order.specs.Pairs.{Pair}
@@ -14,6 +12,7 @@ use Rattle.promise.specs.declared.Reply.{Reply}
 use Rattle.promise.specs.Next.{FirstOpen}
 use Rattle.promise.specs.Hierarchy.{HeadsOf, StepsOf}
 use Rattle.promise.specs.Read.{BookRead}
+use Rattle.buffers.specs.Decimal.{decimal}
 
 -- the bytes of the characters that are written
 abbrev pub line-feed : ℕ
@@ -21,9 +20,6 @@ line-feed = 10
 
 abbrev pub space : ℕ
 space = 32
-
-abbrev pub digit-0 : ℕ
-digit-0 = 48
 
 abbrev pub capital-C : ℕ
 capital-C = 67
@@ -46,20 +42,7 @@ capital-R = 82
 abbrev pub capital-T : ℕ
 capital-T = 84
 
--- a byte, unless it is left out
-abbrev pub unless : Bool → ℕ → List ℕ
-unless true byte = []
-unless false byte = byte ∷ []
-
--- "decimal without leading zeros": the digit of x at a power of ten stands there unless x is below that power
-abbrev pub digit : ℕ → ℕ → List ℕ
-digit x power = unless (ltb x power) (digit-0 + x / power % 10)
-
--- a number below 100,000
-abbrev pub decimal : ℕ → List ℕ
-decimal x = digit x 10000 ++ (digit x 1000 ++ (digit x 100 ++ (digit x 10 ++ ((digit-0 + x % 10) ∷ []))))
-
--- "one space between fields"
+-- "one space between fields", "decimal without leading zeros"
 abbrev pub spaced : ℕ → List ℕ
 spaced x = space ∷ decimal x
 

@@ -12,14 +12,13 @@ use Rattle.promise.specs.declared.Reply.{Reply}
 use Rattle.promise.specs.Refusals.{standing}
 use Rattle.promise.specs.Next.{FirstOpen}
 use Rattle.promise.specs.Hierarchy.{HeadsOf, StepsOf}
-use Rattle.book.specs.Fields.{Placed}
+use Rattle.buffers.specs.Placed.{Put}
 use Rattle.lines.specs.Lines.{questionLine, classLines, stepLines, Says}
 
--- the bytes w were put from index at on, up to the index behind
-pub record Put (w : List ℕ) (at : ℕ) (text : List ℕ) (behind : ℕ) (text′ : List ℕ) : Type 0 where
-  pub placed : Placed w at text text′
-  pub ends : behind ≡ at + length w
-  pub fits : behind ≤ length text
+-- k lines w were put, of at most 10 bytes each
+pub record LinesPut (k : ℕ) (w : List ℕ) (at : ℕ) (text : List ℕ) (behind : ℕ) (text′ : List ℕ) : Type 0 where
+  pub put : Put w at text behind text′
+  pub short : behind ≤ at + 10 * k
 
 -- the first pairs of a list that has two bytes each, as many as are asked for
 abbrev pub pairsIn : ℕ → List ℕ → List Pair
@@ -47,7 +46,7 @@ pub record Settled (s : Session) (t heads steps text : List ℕ) (at : ℕ) : Ty
   pub none-open : opens (s .classes) t ≡ 0
   pub heads-room : 128 ≤ length heads
   pub steps-room : 8192 ≤ length steps
-  pub text-room : at + 14 * 4224 ≤ length text
+  pub text-room : at + 10 * 4224 ≤ length text
 
 -- the table of an accepted book can be used, and there is room
 pub record Reportable (r : Reply) (t heads steps text : List ℕ) : Type 0 where

@@ -20,8 +20,9 @@ ghost use Rattle.order.specs.Refusals.{First};
 ghost use Rattle.order.specs.Tables.{opens};
 ghost use Rattle.promise.specs.Refusals.{standing};
 ghost use mathlib.Core.List.{[]};
+ghost use Rattle.buffers.specs.Placed.{Put};
 ghost use Rattle.lines.specs.Lines.{refusalLine};
-ghost use Rattle.lines.specs.Put.{Put, QuestionPut, SettledPut, Settled, Reportable, Reported};
+ghost use Rattle.lines.specs.Put.{QuestionPut, SettledPut, Settled, Reportable, Reported};
 
 // The most bytes that the printing program reads.
 pub const MOST_INPUT: usize = 32768;
@@ -36,7 +37,7 @@ pub fn report_too_long(text: &mut [u8]) -> usize
 
 // The next question, where a pair is open.
 fn put_question(session: Session, table: &[u8], text: &mut [u8], at: usize) -> usize
-    requires { ⌜ (First (standing session (now table) []) 0) × (0 < opens (session .classes) (now table)) × (at + 14 ≤ length (now text)) ⌝ }
+    requires { ⌜ (First (standing session (now table) []) 0) × (0 < opens (session .classes) (now table)) × (at + 10 ≤ length (now text)) ⌝ }
     ensures { λ r. ⌜ QuestionPut (session .classes) (now (table .entry)) at (now (text .entry)) r (now (text .exit)) ⌝ }
 {
     let question = next(session, table);

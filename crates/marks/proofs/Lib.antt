@@ -1,4 +1,3 @@
 pub mod Answers
 pub mod Shape
 pub mod Upto
-pub mod Noting

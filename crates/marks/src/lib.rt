@@ -1,10 +1,8 @@
 // The marks in lent bytes. `passes` and `standing`, right above, walk the table by index too; the rest of the library speaks of facts and
 // sound tables, and never of an index.
-mod pairs;
 mod single;
 mod whole;
 
-pub use pairs::put_pair;
 pub use single::index;
 pub use single::is_marked;
 pub use single::mark_of;

@@ -3,8 +3,8 @@
 use mathlib.Core.List.{List}
 use Prim.Native.Nat.{ℕ, _≤_}
 use lib.ListN.{length}
+use Rattle.buffers.specs.Placed.{Put}
 use Rattle.lines.specs.Lines.{Printed}
-use Rattle.lines.specs.Put.{Put}
 
 -- "one table of 16,384 marks", "room for 128 heads and 8,192 bytes of steps", and room for the text
 pub record Room (table heads steps text : List ℕ) : Type 0 where

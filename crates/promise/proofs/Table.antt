@@ -10,8 +10,8 @@ use Rattle.promise.specs.declared.Session.{Session}
 use Rattle.promise.specs.declared.Reply.{Reply}
 use Rattle.promise.specs.declared.Question.{Question}
 use Rattle.promise.specs.declared.Question.the-variants.{Ask, Done}
-use Rattle.promise.specs.declared.Wrote.{Wrote}
-use Rattle.promise.specs.declared.Wrote.the-variants.{Count, Refused}
+use Rattle.promise.specs.declared.Counted.{Counted}
+use Rattle.promise.specs.declared.Counted.the-variants.{Count, Refused}
 use Rattle.promise.specs.Sessions.{started}
 use Rattle.promise.specs.Fresh.{Freshened}
 use Rattle.promise.specs.Tell.{Kind, Took}
@@ -28,10 +28,10 @@ pub data Row : Type 0 where
   took : (kind : Kind) (s : Session) (t : List ℕ) (f : Fact) (r : Reply) (t′ : List ℕ) → Row
   clipped : (s : Session) (t : List ℕ) (played : List Bool) (r : Reply) (t′ : List ℕ) → Row
   next : (s : Session) (t : List ℕ) (q : Question) → Row
-  hierarchy : (s : Session) (t heads steps : List ℕ) (r : Wrote) (heads′ steps′ : List ℕ) → Row
-  ladder : (s : Session) (t : List ℕ) (a b : ℕ) (out : List ℕ) (r : Wrote) (out′ : List ℕ) → Row
+  hierarchy : (s : Session) (t heads steps : List ℕ) (r : Counted) (heads′ steps′ : List ℕ) → Row
+  ladder : (s : Session) (t : List ℕ) (a b : ℕ) (out : List ℕ) (r : Counted) (out′ : List ℕ) → Row
   read : (book t : List ℕ) (r : Reply) (t′ : List ℕ) → Row
-  write : (s : Session) (t out : List ℕ) (r : Wrote) (out′ : List ℕ) → Row
+  write : (s : Session) (t out : List ℕ) (r : Counted) (out′ : List ℕ) → Row
   open-pairs : (n : ℕ) (t : List ℕ) (k : ℕ) → Row
 
 abbrev pub Meets : Row → Type 0

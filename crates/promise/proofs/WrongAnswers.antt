@@ -16,8 +16,8 @@ use Rattle.promise.specs.declared.Session.{Session}
 use Rattle.promise.specs.declared.Reply.{Reply}
 use Rattle.promise.specs.declared.Question.{Question}
 use Rattle.promise.specs.declared.Question.the-variants.{Ask, Done}
-use Rattle.promise.specs.declared.Wrote.{Wrote}
-use Rattle.promise.specs.declared.Wrote.the-variants.{Count, Refused}
+use Rattle.promise.specs.declared.Counted.{Counted}
+use Rattle.promise.specs.declared.Counted.the-variants.{Count, Refused}
 use Rattle.promise.specs.Sessions.{started}
 use Rattle.promise.specs.Fresh.{Freshened}
 use Rattle.promise.specs.Tell.{Kind, Took}
@@ -257,7 +257,7 @@ abbrev pub hierarchyContract : Contract
 hierarchyContract =
     record {
       Input = Session × List ℕ × List ℕ × List ℕ;
-      Output = Wrote × (List ℕ × List ℕ);
+      Output = Counted × (List ℕ × List ℕ);
       Owes = λ i o. HierarchyWritten (i .0) (i .1) (i .2) (i .3) (o .0) (o .1 .0) (o .1 .1);
       only = λ i o o₂ h h₂. let q = hierarchy-unique h h₂ in pair-same (q .0, pair-same (q .1, q .2));
     }
@@ -277,7 +277,7 @@ abbrev pub ladderContract : Contract
 ladderContract =
     record {
       Input = Session × List ℕ × ℕ × ℕ × List ℕ;
-      Output = Wrote × List ℕ;
+      Output = Counted × List ℕ;
       Owes = λ i o. LadderWritten (i .0) (i .1) (i .2) (i .3) (i .4) (o .0) (o .1);
       only = λ i o o₂ h h₂. pair-same (ladder-written-unique (i .0) (i .1) (i .2) (i .3) (i .4) h h₂);
     }
@@ -311,7 +311,7 @@ abbrev pub writeContract : Contract
 writeContract =
     record {
       Input = Session × List ℕ × List ℕ;
-      Output = Wrote × List ℕ;
+      Output = Counted × List ℕ;
       Owes = λ i o. BookWritten (i .0) (i .1) (i .2) (o .0) (o .1);
       only = λ i o o₂ h h₂. pair-same (write-unique (i .0) (i .1) (i .2) h h₂);
     }

@@ -1,6 +1,6 @@
 -- Demand 3 for what `replay` leaves: the laws of runs, held to the calls themselves.
 -- Assumes nothing.
-use mathlib.Core.Path.{_≡_, refl, sym, _∙_, ap, subst}
+use mathlib.Core.Path.{_≡_, refl, sym, _∙_, ap, ap₂, subst}
 use mathlib.Core.Logic.{_↔_, _≢_, Iff·symm}
 use mathlib.Core.Bool.{Bool, false, false≢true}
 use mathlib.Core.List.{List, [], _∷_, _++_}
@@ -9,19 +9,18 @@ use native.Mathlib.Decide.{ℕ-discrete}
 use native.Mathlib.Omega.{arith}
 use lib.ListN.{take}
 use lib.Seq.{getD-take}
-use Rattle.order.specs.Facts.{_and_, _⊆_}
+use Rattle.order.specs.Facts.{factOn, _and_, _⊆_}
 use Rattle.order.specs.Tables.{mark}
 use Rattle.order.specs.Orders.{Impossible, Exact}
 use Rattle.promise.specs.declared.Session.{Session}
 use Rattle.promise.specs.declared.Reply.{Reply}
-use Rattle.promise.specs.Tell.{Told, Answered}
-use Rattle.promise.specs.Clips.{Clipped}
-use Rattle.promise.specs.Runs.{Call, Makes, SaidBy, Fits, Made, Run, callsOf, Accepted, testsIn}
-use Rattle.session.specs.Facts.{factOn}
-use Rattle.promise.specs.Clips.{Flagged}
+use Rattle.promise.specs.Sessions.{accepted}
+use Rattle.promise.specs.Calls.{Owed}
+use Rattle.promise.specs.Tell.{Kind, fresh, tell}
+use Rattle.promise.specs.Clips.{Flagged, clip}
+use Rattle.promise.specs.Runs.{Intake, taking, SaidBy, Fits, Made, Run, callsOf, Accepted, testsIn}
 use Rattle.passes.proofs.Pass.{Gathered}
 use Rattle.clips.specs.Seen.{SameFlags}
-use Rattle.promise.proofs.Replies.{reply-same}
 use Rattle.promise.proofs.Flags.{flag-there}
 use Rattle.promise.proofs.Clips.{clip-same-members}
 use Rattle.promise.proofs.Fresh.{fresh-unique}
@@ -40,7 +39,7 @@ none-made s t numbers flags = record { made = []; run = Run.stop; same = refl }
 
 pub one-more :
     {s₀ s : Session} {t₀ t t′ : List ℕ} {r : Reply} (numbers : List ℕ) (flags : List Bool) (i : ℕ) → Made-so-far s₀ t₀ numbers flags i s t
-    → Makes (callAt numbers flags i) s t r t′ → Made-so-far s₀ t₀ numbers flags (i + 1) (r .session) t′
+    → Owed (taking (callAt numbers flags i) s t) (r, t′) → Made-so-far s₀ t₀ numbers flags (i + 1) (r .session) t′
 unfolding firstCalls
 one-more {s₀} {t₀ = t₀} {t′ = t′} {r = r} numbers flags i h makes =
     let m : Made = record { call = callAt numbers flags i; number = r .number } in
@@ -48,7 +47,7 @@ one-more {s₀} {t₀ = t₀} {t′ = t′} {r = r} numbers flags i h makes =
     record {
       made = h .made ++ m ∷ [];
       run = run-then m (h .run) makes refl;
-      same = calls-then (h .made) m ∙ ap (λ (l : List Call). l ++ callAt numbers flags i ∷ []) (h .same);
+      same = calls-then (h .made) m ∙ ap (λ (l : List Intake). l ++ callAt numbers flags i ∷ []) (h .same);
     }
     in
     subst (λ (k : ℕ). Made-so-far s₀ t₀ numbers flags k (r .session) t′) (omega arith) next
@@ -57,22 +56,24 @@ one-more {s₀} {t₀ = t₀} {t′ = t′} {r = r} numbers flags i h makes =
 
 module _ {s : Session} {t t′ : List ℕ} {r : Reply} (flags : List Bool) (first second : ℕ) where
   pub tell-made :
-      {which : ℕ} {holds holds′ : Bool} → which ≡ 0 → holds ≡ holds′ → Told s t (factOn first second holds) r t′
-      → Makes (callOf which first second holds′ flags) s t r t′
-  tell-made e e₂ h = rw (e, ← e₂) (Makes.took h)
+      {which : ℕ} {holds holds′ : Bool} → which ≡ 0 → holds ≡ holds′
+      → Owed (tell Kind.told s t (factOn first second holds)) (r, t′)
+      → Owed (taking (callOf which first second holds′ flags) s t) (r, t′)
+  tell-made e e₂ h = rw (e, ← e₂) h
 
   pub answer-made :
-      {which : ℕ} {holds holds′ : Bool} → which ≡ 1 → holds ≡ holds′ → Answered s t (factOn first second holds) r t′
-      → Makes (callOf which first second holds′ flags) s t r t′
-  answer-made e e₂ h = rw (e, ← e₂) (Makes.took h)
+      {which : ℕ} {holds holds′ : Bool} → which ≡ 1 → holds ≡ holds′
+      → Owed (tell Kind.answered s t (factOn first second holds)) (r, t′)
+      → Owed (taking (callOf which first second holds′ flags) s t) (r, t′)
+  answer-made e e₂ h = rw (e, ← e₂) h
 
   pub clip-made :
       (which : ℕ) (holds : Bool) {played : List Bool} → which ≢ 0 → which ≢ 1 → SameFlags (clipFlags flags first) played
-      → Clipped s t played r t′ → Makes (callOf which first second holds flags) s t r t′
+      → Owed (clip s t played) (r, t′) → Owed (taking (callOf which first second holds flags) s t) (r, t′)
   clip-made zero holds z o same h = absurd (z refl)
   clip-made (suc zero) holds z o same h = absurd (o refl)
   clip-made (suc (suc k)) holds {played} z o same h =
-      Makes.clipped (clip-same-members played (clipFlags flags first) (λ a. Iff·symm (same .at a)) h)
+      clip-same-members played (clipFlags flags first) (λ a. Iff·symm (same .at a)) h
 
 -- What is left by a replay that fresh did not refuse, `made` being the calls with the numbers they got.
 module _ {n : ℕ} {t numbers : List ℕ} {flags : List Bool} {r : Reply} {t′ : List ℕ} (h : Replayed n t numbers flags r t′) (z : r .number ≡ 0) where
@@ -87,7 +88,7 @@ module _ {n : ℕ} {t numbers : List ℕ} {flags : List Bool} {r : Reply} {t′ 
   -- "A fact on two classes below the count is refused as contradictory exactly when no order agrees with it and those accepted before."
   -- And a clip "is refused as contradictory exactly when no order agrees with all of them and the facts accepted before".
   pub replay-refused :
-      {c : Call} {r₂ : Reply} {t₂ : List ℕ} → Fits n c → Makes c (r .session) t′ r₂ t₂
+      (c : Intake) {r₂ : Reply} {t₂ : List ℕ} → Fits n c → Owed (taking c (r .session) t′) (r₂, t₂)
       → ((r₂ .number ≢ 0) ↔ Impossible n (Accepted n made and SaidBy n c)) × (r₂ .number ≢ 0 → r₂ .number ≡ 6)
   replay-refused = fresh-run-refused (h .ran z .run)
 
@@ -107,27 +108,26 @@ replays-agree h h₂ z z₂ = fresh-runs-agree (h .ran z .run) (h₂ .ran z₂ .
 -- no two outcomes of one replay
 pub replay-unique :
     {n : ℕ} {t numbers : List ℕ} {flags : List Bool} {r r₂ : Reply} {u u₂ : List ℕ} → Replayed n t numbers flags r u
-    → Replayed n t numbers flags r₂ u₂ → (r ≡ r₂) × (u ≡ u₂)
+    → Replayed n t numbers flags r₂ u₂ → _≡_ {A = Reply × List ℕ} (r, u) (r₂, u₂)
 replay-unique {n} {t} {numbers} {flags} {r} {r₂} {u} {u₂} h h₂ = go (ℕ-discrete (r .number) 0) (ℕ-discrete (r₂ .number) 0)
   where
     -- the session and the table that two runs leave
     left : Ran n t numbers flags (r .session) u → Ran n t numbers flags (r₂ .session) u₂ → (r .session ≡ r₂ .session) × (u ≡ u₂)
     left f f₂ =
-        let q = fresh-unique (f .run .began) (f₂ .run .began) in
-        let from : Run (f₂ .run .reply .session) (f₂ .run .table) (f .made) (r .session) u =
-        subst (λ (x : Reply). Run (x .session) (f₂ .run .table) (f .made) (r .session) u) (q .0)
-        (subst (λ (v : List ℕ). Run (f .run .reply .session) v (f .made) (r .session) u) (q .1) (f .run .run))
-        in
-        run-unique from (f₂ .run .run) (f .same ∙ sym (f₂ .same))
+        run-unique
+        (subst (λ (o : Reply × List ℕ). Run (o .0 .session) (o .1) (f .made) (r .session) u)
+        (fresh-unique (f .run .began) (f₂ .run .began)) (f .run .run)) (f₂ .run .run) (f .same ∙ sym (f₂ .same))
 
-    go : Dec (r .number ≡ 0) → Dec (r₂ .number ≡ 0) → (r ≡ r₂) × (u ≡ u₂)
+    -- a run is not refused by fresh
+    apart : {s : Session} {v w : List ℕ} {y : Reply} → Ran n t numbers flags s v → Owed (fresh n t) (y, w) → y .number ≡ 0
+    apart f h = sym (ap (λ (o : Reply × List ℕ). o .0 .number) (fresh-unique (f .run .began) h)) ∙ f .run .accepted
+
+    go : Dec (r .number ≡ 0) → Dec (r₂ .number ≡ 0) → _≡_ {A = Reply × List ℕ} (r, u) (r₂, u₂)
     go (yes z) (yes z₂) =
         let q = left (h .ran z) (h₂ .ran z₂) in
-        (reply-same (z ∙ sym z₂) (h .place ∙ sym (h₂ .place)) (q .0), q .1)
-    go (yes z) (no y₂) =
-        absurd (y₂ (sym (ap (λ (x : Reply). x .number) (fresh-unique (h .ran z .run .began) (h₂ .refused y₂) .0)) ∙ h .ran z .run .accepted))
-    go (no y) (yes z₂) =
-        absurd (y (ap (λ (x : Reply). x .number) (fresh-unique (h .refused y) (h₂ .ran z₂ .run .began) .0) ∙ h₂ .ran z₂ .run .accepted))
+        ap₂ (λ x v. (x, v)) (h .accepted z ∙ ap accepted (q .0) ∙ sym (h₂ .accepted z₂)) (q .1)
+    go (yes z) (no y₂) = absurd (y₂ (apart (h .ran z) (h₂ .refused y₂)))
+    go (no y) (yes z₂) = absurd (y (apart (h₂ .ran z₂) (h .refused y)))
     go (no y) (no y₂) = fresh-unique (h .refused y) (h₂ .refused y₂)
 
 -- The flags of a clip, gathered one by one.

@@ -8,7 +8,8 @@ ghost use mathlib.Core.Bool.{false};
 ghost use Prim.Native.Nat.{_+_, _*_, _≤_, _<_};
 ghost use lib.ListN.{getD, length, drop};
 ghost use Rattle.promise.specs.Clips.{truthOf};
-ghost use Rattle.promise.specs.Runs.{Makes};
+ghost use Rattle.promise.specs.Calls.{Owed};
+ghost use Rattle.promise.specs.Runs.{taking};
 ghost use Rattle.clips.specs.Seen.{SameFlags};
 ghost use Rattle.replay.specs.Replay.{clipFlags, callAt, Replayed};
 
@@ -48,7 +49,8 @@ fn clip_at(flags: &[bool], k: usize) -> Clip
 // One call of a history is made: a tell, an answer or a clip.
 fn make(session: Session, table: &mut [u8], numbers: &[usize], flags: &[bool], i: usize) -> Reply
     requires { ⌜ 4 * i + 4 ≤ length (now numbers) ⌝ }
-    ensures { λ r. ⌜ Makes (callAt (now (numbers .entry)) (now (flags .entry)) i) session (now (table .entry)) r (now (table .exit)) ⌝ }
+    ensures { λ r. ⌜ Owed (taking (callAt (now (numbers .entry)) (now (flags .entry)) i) session (now (table .entry)))
+        (r, now (table .exit)) ⌝ }
 {
     let at = 4 * i;
     let which = numbers[at];

@@ -17,7 +17,7 @@ use Rattle.promise.specs.Hierarchy.{Under, Equal, Third, Head, Direct}
 use Rattle.promise.proofs.Hierarchy.{direct?}
 use Rattle.marks.specs.Shape.{IndexOf}
 use Rattle.marks.proofs.Shape.{row-reads}
-use Rattle.marks.proofs.Noting.{SoFar, miss, row-end}
+use Rattle.buffers.proofs.Noting.{SoFar, miss, row-end}
 use Rattle.steps.specs.Between.{HeadAbove, RowAdded, ThirdAdded, NoneYet, ThirdsOf}
 
 -- the row of c is added below k, and from k on no flag is changed

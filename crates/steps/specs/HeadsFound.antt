@@ -6,8 +6,8 @@ use lib.ListN.{length, getD}
 use Rattle.order.specs.Tables.{Sound}
 use Rattle.order.specs.Pairs.{Pair}
 use Rattle.promise.specs.Hierarchy.{HeadOf, StepsOf}
+use Rattle.buffers.specs.Noted.{Noted}
 use Rattle.marks.specs.Shape.{Shape}
-use Rattle.marks.specs.Noted.{Noted}
 
 -- at most 128 classes, room for their marks, and the marks sound
 pub record SoundTable (n : ℕ) (t : List ℕ) : Type 0 where

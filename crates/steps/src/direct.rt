@@ -2,7 +2,7 @@
 use crate::heads::is_head;
 use crate::thirds::find_thirds;
 use crate::thirds::is_above;
-use marks::put_pair;
+use buffers::put_pair;
 use promise::MOST_CLASSES;
 ghost use mathlib.Core.Path.{_≡_};
 ghost use mathlib.Core.Logic.{_↔_};
@@ -33,15 +33,16 @@ pub fn list_steps(n: usize, table: &[u8], heads: &[u8], steps: &mut [u8]) -> usi
     let mut count: usize = 0;
     for a in 0..n {
         let head = is_head(heads, a);
-        if head {
-            let mut thirds: [bool; MOST_CLASSES] = [false; MOST_CLASSES];
-            find_thirds(n, table, heads, a, &mut thirds[..]);
-            for b in 0..n {
-                let direct = is_direct(n, table, heads, &thirds[..], a, b);
-                if direct {
-                    put_pair(&mut *steps, 2 * count, a, b);
-                    count += 1;
-                }
+        if !head {
+            continue;
+        }
+        let mut thirds: [bool; MOST_CLASSES] = [false; MOST_CLASSES];
+        find_thirds(n, table, heads, a, &mut thirds[..]);
+        for b in 0..n {
+            let direct = is_direct(n, table, heads, &thirds[..], a, b);
+            if direct {
+                put_pair(&mut *steps, 2 * count, a, b);
+                count += 1;
             }
         }
     }

@@ -4,8 +4,7 @@ ghost use mathlib.Core.Path.{_≡_};
 ghost use mathlib.Core.Logic.{_↔_};
 ghost use mathlib.Core.Bool.{true};
 ghost use Prim.Native.Nat.{_<_, _≤_};
-ghost use lib.ListN.{length, getD, take};
-ghost use Rattle.promise.specs.Counts.{over};
+ghost use lib.ListN.{length, getD};
 ghost use Rattle.promise.specs.Hierarchy.{Equal, HeadOf};
 ghost use Rattle.marks.specs.Shape.{Shape};
 ghost use Rattle.steps.specs.HeadsFound.{SoundTable, HeadsFound};
@@ -56,14 +55,4 @@ pub fn is_head(heads: &[u8], a: usize) -> bool
     ensures { λ r. ⌜ (r ≡ true) ↔ (getD (now (heads .entry)) a 0 ≡ a) ⌝ }
 {
     heads[a] as usize == a
-}
-
-// The first n bytes found are written to the front of a buffer.
-pub fn write_front(n: usize, found: &[u8], out: &mut [u8])
-    requires { ⌜ (n ≤ length (now found)) × (n ≤ length (now out)) ⌝ }
-    ensures { λ _. ⌜ now (out .exit) ≡ over (take n (now (found .entry))) (now (out .entry)) ⌝ }
-{
-    for i in 0..n {
-        out[i] = found[i];
-    }
 }

@@ -6,5 +6,4 @@ mod thirds;
 pub use direct::is_direct;
 pub use direct::list_steps;
 pub use heads::find_heads;
-pub use heads::write_front;
 pub use thirds::find_thirds;

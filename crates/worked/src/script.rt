@@ -13,6 +13,7 @@
 //     ladder 0 2 3       from 0 to 2, with 3 bytes for rungs
 //     read 1 0 1 3       these bytes as a book
 //     write 23           with 23 bytes for the book
+//     open_pairs         with that session
 //
 // A number is below 256, and a line has at most 32.
 use crate::calls;
@@ -70,15 +71,16 @@ fn numbers(line: &[u8], out: &mut [u8]) -> usize
     while i < line.len() {
         let letter = line[i];
         i += 1;
-        if is_digit(letter) {
-            value = with_digit(value, letter);
-            if !is_digit(byte_at(line, i, b' ')) {
-                if count < out.len() {
-                    out[count] = value;
-                    count += 1;
-                }
-                value = 0;
+        if !is_digit(letter) {
+            continue;
+        }
+        value = with_digit(value, letter);
+        if !is_digit(byte_at(line, i, b' ')) {
+            if count < out.len() {
+                out[count] = value;
+                count += 1;
             }
+            value = 0;
         }
     }
     count
@@ -172,16 +174,24 @@ fn change(session: Session, table: &mut [u8], line: &[u8], given: &[u8]) -> Repl
     let a = number_at(given, 0);
     let b = number_at(given, 1);
     match byte_at(line, 0, b' ') {
-        b'f' => session::fresh(a, table),
+        b'f' => dawnhangra::fresh(a, table),
         b't' => {
             let holds = byte_at(line, 5, b' ') == b'y';
-            session::tell(session, table, a, b, holds)
+            dawnhangra::tell(session, table, a, b, holds)
         }
         b'a' => {
             let holds = byte_at(line, 7, b' ') == b'y';
-            session::answer(session, table, a, b, holds)
+            dawnhangra::answer(session, table, a, b, holds)
         }
-        _ => clips::clip(session, table, clip_of(given)),
+        _ => dawnhangra::clip(session, table, clip_of(given)),
+    }
+}
+
+// A session made by hand.
+fn session_of(classes: usize, tests: usize) -> Session {
+    Session {
+        classes: classes,
+        tests: tests,
     }
 }
 
@@ -192,10 +202,7 @@ fn follow(session: Session, table: &mut [u8], line: &[u8]) -> Session {
     let first = byte_at(line, 0, b' ');
     match first {
         b'b' | b'm' => session,
-        b's' => Session {
-            classes: number_at(&given, 0),
-            tests: number_at(&given, 1),
-        },
+        b's' => session_of(number_at(&given, 0), number_at(&given, 1)),
         b'f' | b't' | b'a' | b'c' => {
             show_call(line);
             let reply = change(session, &mut *table, line, &given[..count]);
@@ -203,8 +210,12 @@ fn follow(session: Session, table: &mut [u8], line: &[u8]) -> Session {
         }
         b'r' => {
             text(b"read: ");
-            let reply = book::read(&given[..count], &mut *table);
+            let reply = dawnhangra::read(&given[..count], &mut *table);
             calls::replied(reply, &*table)
+        }
+        b'o' => {
+            calls::open_pairs(session, &*table);
+            session
         }
         b'h' | b'l' | b'w' => {
             let mut one = [0u8; 256];
@@ -222,10 +233,7 @@ fn follow(session: Session, table: &mut [u8], line: &[u8]) -> Session {
 
 // Every line is followed, one after the other.
 pub fn run(script: &[u8], table: &mut [u8]) {
-    let mut session = Session {
-        classes: 0,
-        tests: 0,
-    };
+    let mut session = session_of(0, 0);
     let mut lent: usize = 0;
     let mut at: usize = 0;
     while at < script.len() {

@@ -30,8 +30,8 @@ fn refusal(why: u8, place: usize) {
     labelled(b" place ", place);
 }
 
-// What hierarchy, ladder and write give, behind the call.
-pub fn wrote(call: &[u8], given: Counted) {
+// What the calls that count give, behind the call.
+pub fn counted(call: &[u8], given: Counted) {
     text(call);
     match given {
         Counted::Count(count) => labelled(b" count ", count),

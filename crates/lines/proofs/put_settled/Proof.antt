@@ -1,7 +1,7 @@
 -- `lines::put_settled` meets its contract: hierarchy refuses nothing, and what it wrote is listed.
 -- Assumes nothing.
 use native.Mathlib.Omega.{arith}
-use Rattle.lines.proofs.Saying.{classes-few, classes-end, never-refused-here, steps-counted, settled-put}
+use Rattle.lines.proofs.Saying.{classes-few, never-refused-here, steps-counted, settled-put}
 use borrow.Author.Needs.{needs}
 use Rattle.lines.proofs.put_settled.Statement.{statement}
 use Rattle.lines.proofs.put_settled.Tie as tie
@@ -14,19 +14,30 @@ enum-known-wrote c = search needs
 
 put-classes-requires : tie.Need-put-classes-requires
 put-classes-requires c κs =
-    let s = c .before .before .before .before .before .before .before .before .before .before .before .before .before .before .before .before in
-    let h = c .before .before .before .before .before .before .before .before .before .hierarchy in (
-      omega (arith, classes-few (s .pre), s .pre .heads-room, h .kept .1 .1 .0),
-      omega (arith, classes-few (s .pre), s .pre .text-room),
+    let h = c .before .before .before .before .before .before .before .before .before in
+    let start = h .before .before .before .before .before .before .before in (
+      omega (arith, classes-few (start .pre)),
+      omega (arith, classes-few (start .pre), start .pre .heads-room, h .hierarchy .kept .1 .1 .0),
+      omega (arith, classes-few (start .pre), start .pre .text-room),
     )
 
 put-steps-requires : tie.Need-put-steps-requires
 put-steps-requires c κs =
-    let s = c .before .before .before .before .before .before .before .before .before .before .before .before .before .before .before .before .before .before .before .before .before in
-    let h = c .before .before .before .before .before .before .before .before .before .before .before .before .before .before .hierarchy in
-    let classes = c .before .before .before .before .put-classes in
-    let count = steps-counted (s .pre) (h .ensures) (c .before .before .before .before .before .before .before .before .wrote .given .1) in
-    (omega (arith, count, s .pre .steps-room, h .kept .1 .1 .1 .0), omega (arith, count, s .pre .text-room, classes-end (s .pre) _ (classes .ensures), classes .kept .1 .1 .0))
+    let classes = c .before .before .before .before in
+    let wrote = classes .before .before .before .before in
+    let h = wrote .before .before .before .before .before .before in
+    let start = h .before .before .before .before .before .before .before in
+    let count = steps-counted (start .pre) (h .hierarchy .ensures) (wrote .wrote .given .1) in (
+      omega (arith, count, start .pre .steps-room, h .hierarchy .kept .1 .1 .1 .0),
+      omega (
+        arith,
+        count,
+        start .pre .text-room,
+        classes-few (start .pre),
+        classes .put-classes .ensures .short,
+        classes .put-classes .kept .1 .1 .0,
+      ),
+    )
 
 enum-told : tie.Need-enum-told
 enum-told c = search needs
@@ -42,8 +53,12 @@ same-length-3 c = search needs
 
 returns : tie.Need-returns
 returns c =
-    settled-put (c .before .before .before .before .before .before .before .before .before .before .before .before .before .before .before .before .before .before .before .before .before .before .before .before .pre) (c .before .before .before .before .before .before .before .before .before .before .before .before .before .before .before .before .before .hierarchy .ensures) (c .before .before .before .before .before .before .before .before .before .before .before .wrote .given .1)
-    (c .before .before .before .before .before .before .before .put-classes .ensures) (c .before .before .put-steps .ensures)
+    let classes = c .before .before .before .before .before .before .before in
+    let wrote = classes .before .before .before .before in
+    let h = wrote .before .before .before .before .before .before in
+    let start = h .before .before .before .before .before .before .before in
+    settled-put (start .pre) (h .hierarchy .ensures) (wrote .wrote .given .1) (classes .put-classes .ensures)
+    (c .before .before .put-steps .ensures)
 
 same-length-4 : tie.Need-same-length-4
 same-length-4 c = search needs
@@ -52,7 +67,10 @@ same-length-5 : tie.Need-same-length-5
 same-length-5 c = search needs
 
 returns-2 : tie.Need-returns-2
-returns-2 c = absurd (never-refused-here (c .before .before .before .before .before .before .before .before .before .before .before .before .before .pre) (c .before .before .before .before .before .before .hierarchy .ensures) (c .enum-told .given .1))
+returns-2 c =
+    let h = c .before .before .before .before .before .before in
+    let start = h .before .before .before .before .before .before .before in
+    absurd (never-refused-here (start .pre) (h .hierarchy .ensures) (c .enum-told .given .1))
 
 pub put-settled-spec : {M : Type 1} → statement M
 put-settled-spec =

@@ -2,6 +2,8 @@
 -- Assumes nothing.
 use mathlib.Core.Path.{sym, _∙_}
 use native.Mathlib.Omega.{arith}
+use lib.ListN.{length-append}
+use Rattle.buffers.proofs.Decimals.{decimal-longest}
 use Rattle.lines.proofs.Saying.{counts-short, ready-shape, reported-refused, reported-settled, reported-open}
 use borrow.Author.Needs.{needs}
 use Rattle.lines.proofs.report.Statement.{statement}
@@ -11,7 +13,10 @@ cast-put-line : tie.Need-cast-put-line
 cast-put-line c = search needs
 
 put-line-requires : tie.Need-put-line-requires
-put-line-requires c κs = search needs
+put-line-requires c κs =
+    let reply = c .before .before .before .before .before .before .before .before .args .reply in
+    simp length-append
+    (omega (arith, decimal-longest (reply .number) (omega arith), decimal-longest (reply .place) (omega arith)))
 
 same-length : tie.Need-same-length
 same-length c = search needs
@@ -23,18 +28,33 @@ count-open-requires : tie.Need-count-open-requires
 count-open-requires c κs = ready-shape (c .before .before .before .before .before .before .before .pre) (c .before .if1 .left)
 
 put-counts-requires : tie.Need-put-counts-requires
-put-counts-requires c κs = search needs
+put-counts-requires c κs =
+    let opened = c .before in
+    let accepted = opened .before .before in
+    let start = accepted .before .before .before .before .before .before in
+    let counts = counts-short (start .pre) (accepted .if1 .left) (opened .count-open .ensures) in
+    simp length-append (omega (arith, start .pre .text-room))
 
 put-settled-requires : tie.Need-put-settled-requires
 put-settled-requires c κs =
-    let s = c .before .before .before .before .before .before .before .before .before .before .before .before .before .before .before .before in
-    let counts = c .before .before .before .before .before .before .put-counts in
+    let none = c .before .before .before in
+    let counts = none .before .before .before in
+    let opened = counts .before .before in
+    let accepted = opened .before .before in
+    let start = accepted .before .before .before .before .before .before in
     record {
-      stands = s .pre .stands (c .before .before .before .before .before .before .before .before .before .before .if1 .left);
-      none-open = sym (c .before .before .before .before .before .before .before .before .count-open .ensures) ∙ c .before .before .before .if2 .taken;
-      heads-room = s .pre .heads-room;
-      steps-room = s .pre .steps-room;
-      text-room = omega (arith, s .pre .text-room, counts .kept .0, counts .ensures .ends, counts-short (s .args .reply .session .classes) (s .args .reply .session .tests) (c .before .before .before .before .before .before .before .before .count-open .result));
+      stands = start .pre .stands (accepted .if1 .left);
+      none-open = sym (opened .count-open .ensures) ∙ none .if2 .taken;
+      heads-room = start .pre .heads-room;
+      steps-room = start .pre .steps-room;
+      text-room =
+          omega (
+            arith,
+            start .pre .text-room,
+            counts .put-counts .kept .0,
+            simp length-append at (counts .put-counts .ensures .ends),
+            counts-short (start .pre) (accepted .if1 .left) (opened .count-open .ensures),
+          );
     }
 
 same-length-2 : tie.Need-same-length-2
@@ -48,16 +68,29 @@ same-length-4 c = search needs
 
 returns-2 : tie.Need-returns-2
 returns-2 c =
-    reported-settled (c .before .before .before .before .before .before .before .before .before .before .before .before .before .before .before .before .before .if1 .left) (c .before .before .before .before .before .before .before .before .before .before .before .before .before .before .before .count-open .ensures) (c .before .before .before .before .before .before .before .before .before .before .if2 .taken)
-    (c .before .before .before .before .before .before .before .before .before .before .before .before .before .put-counts .ensures) (c .before .before .before .before .before .before .put-settled .ensures)
+    let settled = c .before .before .before .before .before .before in
+    let none = settled .before .before .before .before in
+    let counts = none .before .before .before in
+    let opened = counts .before .before in
+    reported-settled (opened .before .before .if1 .left) (opened .count-open .ensures) (none .if2 .taken)
+    (counts .put-counts .ensures) (settled .put-settled .ensures)
 
 put-question-requires : tie.Need-put-question-requires
 put-question-requires c κs =
-    let s = c .before .before .before .before .before .before .before .before .before .before .before .before .before .before in
-    let counts = c .before .before .before .before .put-counts in (
-      s .pre .stands (c .before .before .before .before .before .before .before .before .if1 .left),
-      omega (arith, c .before .before .before .before .before .before .count-open .ensures, c .before .if2 .left),
-      omega (arith, s .pre .text-room, counts .kept .0, counts .ensures .ends, counts-short (s .args .reply .session .classes) (s .args .reply .session .tests) (c .before .before .before .before .before .before .count-open .result)),
+    let some = c .before in
+    let counts = some .before .before .before in
+    let opened = counts .before .before in
+    let accepted = opened .before .before in
+    let start = accepted .before .before .before .before .before .before in (
+      start .pre .stands (accepted .if1 .left),
+      omega (arith, opened .count-open .ensures, some .if2 .left),
+      omega (
+        arith,
+        start .pre .text-room,
+        counts .put-counts .kept .0,
+        simp length-append at (counts .put-counts .ensures .ends),
+        counts-short (start .pre) (accepted .if1 .left) (opened .count-open .ensures),
+      ),
     )
 
 same-length-5 : tie.Need-same-length-5
@@ -65,7 +98,9 @@ same-length-5 c = search needs
 
 returns-3 : tie.Need-returns-3
 returns-3 c =
-    reported-open (c .before .before .before .before .before .before .before .before .before .before .before .if1 .left) (c .before .before .before .before .before .before .before .before .before .count-open .ensures) (c .before .before .before .before .before .before .before .put-counts .ensures)
+    let counts = c .before .before .before .before .before .before .before in
+    let opened = counts .before .before in
+    reported-open (opened .before .before .if1 .left) (opened .count-open .ensures) (counts .put-counts .ensures)
     (c .before .before .put-question .ensures)
 
 pub report-spec : {M : Type 1} → statement M

@@ -27,7 +27,7 @@ returns : tie.Need-returns Inv-loop μ-loop
 returns c =
     let first = c .before .before .before .before in
     record {
-      place = first .fresh .ensures .replies .place;
+      accepted = λ z. absurd (c .if1 .taken z);
       refused = λ _. first .fresh .ensures;
       ran = λ z. absurd (c .if1 .taken z);
     }
@@ -64,7 +64,7 @@ returns-2 c =
     let so-far = passed .before .loop .inv .3 in
     rw (c .accepted .ensures)
     (record {
-      place = refl;
+      accepted = λ _. refl;
       refused = λ z. absurd (z refl);
       ran = λ _.
           record {

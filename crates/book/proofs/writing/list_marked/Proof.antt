@@ -7,18 +7,20 @@ use Prim.Native.Nat.{_-_, _≤_, _<_}
 use native.Mathlib.Omega.{arith}
 use borrow.Author.Needs.{needs}
 use Rattle.promise.proofs.Write.{Off, off?}
-use Rattle.marks.proofs.Noting.{SoFar, Along, so-far-none, along-none, few, hit, miss, row-end, all-noted}
+use Rattle.buffers.proofs.Noting.{SoFar, Along, so-far-none, along-none, few, hit, miss, row-end, all-noted}
 use Rattle.book.proofs.writing.list_marked.Statement.{statement}
 use Rattle.book.proofs.writing.list_marked.Tie as tie
 
 abbrev Inv-loop2 : tie.InvT-loop2
-Inv-loop2 n table wanted out₀ count₀ a b₀ out count b = (b ≤ n) × Along (Off n table wanted) (off? n table wanted) n a out₀ count₀ out count b
+Inv-loop2 n table wanted out₀ count₀ a b₀ out count b =
+    (b ≤ n) × Along (Off n table wanted) (off? n table wanted) n a out₀ count₀ out count b
 
 abbrev μ-loop2 : tie.MeasureT-loop2
 μ-loop2 n table wanted out₀ count₀ a b₀ out count b = n - b
 
 abbrev Inv-loop : tie.InvT-loop
-Inv-loop n table wanted out₀ count₀ a₀ out count a = (a ≤ n) × SoFar (Off n table wanted) (off? n table wanted) n out₀ count out a 0
+Inv-loop n table wanted out₀ count₀ a₀ out count a =
+    (a ≤ n) × SoFar (Off n table wanted) (off? n table wanted) n out₀ count out a 0
 
 abbrev μ-loop : tie.MeasureT-loop
 μ-loop n table wanted out₀ count₀ a₀ out count a = n - a

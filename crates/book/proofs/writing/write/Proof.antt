@@ -14,7 +14,9 @@ refused-requires : tie.Need-refused-requires
 refused-requires c κs = search needs
 
 returns : tie.Need-returns
-returns c = rw (c .refused .ensures) (write-standing _ _ _ _ (c .before .before .first-refusal .ensures) (c .before .if1 .taken))
+returns c =
+    rw (c .refused .ensures)
+    (write-standing _ _ _ _ (c .before .before .first-refusal .ensures) (c .before .if1 .taken))
 
 -- none of the refusals 1 to 4 is due
 passed : (c : tie.Else1) → let a = c .before .before .before .before .args in Stands (a .session) (a .table .now)

@@ -1,8 +1,8 @@
 -- `book::writing::write_field` meets its contract: the pairs are written, and then the head before them.
 -- Assumes nothing.
 use native.Mathlib.Omega.{arith}
-use Rattle.book.proofs.Placing.{replaced-length}
-use Rattle.book.proofs.Books.{head-fits, contents-small, field-placed}
+use Rattle.buffers.proofs.Parts.{replaced-length}
+use Rattle.book.proofs.Books.{head-fits, contents-small, field-put}
 use borrow.Author.Needs.{needs}
 use Rattle.book.proofs.writing.write_field.Statement.{statement}
 use Rattle.book.proofs.writing.write_field.Tie as tie
@@ -34,7 +34,8 @@ write-head-requires c κs =
       omega (
         arith,
         head-fits (start .pre),
-        replaced-length _ (start .args .out .now) (pairs .last .1 .1 .1 .0) (head-fits (start .pre)) (pairs .kept .1 .1 .1 .0),
+        replaced-length _ (start .args .out .now) (pairs .last .1 .1 .1 .0) (head-fits (start .pre))
+            (pairs .kept .1 .1 .1 .0),
       ),
       omega (arith, contents-small (start .pre) (pairs .ensures)),
     )
@@ -52,7 +53,7 @@ returns : tie.Need-returns
 returns c =
     let pairs = c .before .before .before .before .before .before in
     let start = pairs .before .before .before .before in
-    field-placed (start .pre) (pairs .list-marked .ensures) (c .before .before .write-head .ensures)
+    field-put (start .pre) (pairs .list-marked .ensures) (c .before .before .write-head .ensures)
 
 pub write-field-spec : {M : Type 1} → statement M
 write-field-spec =

@@ -2,8 +2,7 @@
 -- Assumes nothing.
 use mathlib.Core.Path.{_∙_}
 use native.Mathlib.Omega.{arith}
-use lib.ListN.{length-set}
-use Rattle.book.proofs.Books.{front-fits, yes-fits, no-fits, book-placed}
+use Rattle.book.proofs.Books.{front-fits, yes-fits, no-fits, book-put}
 use borrow.Author.Needs.{needs}
 use Rattle.book.proofs.writing.write_fields.Statement.{statement}
 use Rattle.book.proofs.writing.write_fields.Tie as tie
@@ -11,50 +10,51 @@ use Rattle.book.proofs.writing.write_fields.Tie as tie
 write-head-requires : tie.Need-write-head-requires
 write-head-requires c κs = (omega (arith, front-fits (c .before .before .before .pre)), omega arith)
 
-cast-out : tie.Need-cast-out
-cast-out c = search needs
+cast-put-byte : tie.Need-cast-put-byte
+cast-put-byte c = search needs
 
-slice-write-out : tie.Need-slice-write-out
-slice-write-out c =
-    omega (arith, front-fits (c .before .before .before .before .before .before .pre), c .before .before .write-head .kept .0)
+put-byte-requires : tie.Need-put-byte-requires
+put-byte-requires c κs =
+    let head = c .before .before .before in
+    let start = head .before .before .before .before in
+    omega (arith, front-fits (start .pre), head .write-head .ensures .ends, head .write-head .kept .0)
 
 write-field-requires : tie.Need-write-field-requires
 write-field-requires c κs =
-    let start = c .before .before .before .before .before .before .before in
-    let head = c .before .before .before .write-head in
-    yes-fits (start .pre) _ (length-set (head .last .0) 3 (start .args .n) ∙ head .kept .0)
+    let classes = c .before .before .before in
+    let head = classes .before .before .before .before in
+    let start = head .before .before .before .before in
+    yes-fits (start .pre) _ (omega (arith, head .write-head .ensures .ends, classes .put-byte .ensures .ends))
+    (classes .put-byte .kept .0 ∙ head .write-head .kept .0)
 
 write-field-requires-2 : tie.Need-write-field-requires-2
 write-field-requires-2 c κs =
-    let start = c .before .before .before .before .before .before .before .before .before .before .before in
-    let head = c .before .before .before .before .before .before .before .write-head in
-    let first = c .before .before .before .write-field in
-    no-fits (start .pre) _ (first .ensures) (first .kept .1 .1 .1 .1 .0 ∙ length-set (head .last .0) 3 (start .args .n) ∙ head .kept .0)
+    let first = c .before .before .before in
+    let classes = first .before .before .before .before in
+    let head = classes .before .before .before .before in
+    let start = head .before .before .before .before in
+    no-fits (start .pre) _ (omega (arith, head .write-head .ensures .ends, classes .put-byte .ensures .ends))
+    (first .write-field .ensures)
+    (first .write-field .kept .1 .1 .1 .1 .0 ∙ classes .put-byte .kept .0 ∙ head .write-head .kept .0)
 
 same-length : tie.Need-same-length
-same-length c =
-    let start = c .before .before .before .before .before .before .before .before .before .before .before .before .before .before in
-    let head = c .before .before .before .before .before .before .before .before .before .before .write-head in
-    c .before .before .write-field2 .kept .1 .1 .1 .1 .0
-    ∙ c .before .before .before .before .before .before .write-field .kept .1 .1 .1 .1 .0
-    ∙ length-set (head .last .0) 3 (start .args .n)
-    ∙ head .kept .0
+same-length c = search needs
 
 returns : tie.Need-returns
 returns c =
-    let second = c .before .before .write-field2 in
     let first = c .before .before .before .before .before .before in
-    let head = first .before .before .before .before in
-    book-placed (head .before .before .before .before .pre) (head .write-head .ensures) (first .write-field .ensures)
-    (second .ensures)
+    let classes = first .before .before .before .before in
+    let head = classes .before .before .before .before in
+    book-put (head .write-head .ensures) (classes .put-byte .ensures) (first .write-field .ensures)
+    (c .before .before .write-field2 .ensures)
 
 pub write-fields-spec : {M : Type 1} → statement M
 write-fields-spec =
     tie.close
     (tie.spec
     write-head-requires
-    cast-out
-    slice-write-out
+    cast-put-byte
+    put-byte-requires
     write-field-requires
     write-field-requires-2
     same-length

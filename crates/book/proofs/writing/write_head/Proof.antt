@@ -1,59 +1,42 @@
--- `book::writing::write_head` meets its contract.
+-- `book::writing::write_head` meets its contract: each byte stands behind the one before it.
 -- Assumes nothing.
-use mathlib.Core.Path.{_≡_}
-use Prim.Native.Nat.{_+_, _/_, _%_}
-use native.Mathlib.Omega.{arith}
-use lib.ListN.{length, set, length-set}
-use Rattle.book.proofs.Placing.{three-placed}
+use Rattle.buffers.proofs.Placing.{put-then}
 use borrow.Author.Needs.{needs}
 use Rattle.book.proofs.writing.write_head.Statement.{statement}
 use Rattle.book.proofs.writing.write_head.Tie as tie
 
-slice-write-out : tie.Need-slice-write-out
-slice-write-out c = search needs
+put-byte-requires : tie.Need-put-byte-requires
+put-byte-requires c κs = search needs
 
-cast-out : tie.Need-cast-out
-cast-out c = search needs
+cast-put-byte : tie.Need-cast-put-byte
+cast-put-byte c = search needs
 
-add-out : tie.Need-add-out
-add-out c = search needs
+put-byte-requires-2 : tie.Need-put-byte-requires-2
+put-byte-requires-2 c κs = search needs
 
--- the length stays with the first byte
-first : (c : tie.Start) → let s = c .args in length (set (s .out .now) (s .at) (s .tag)) ≡ length (s .out .now)
-first c = let s = c .args in length-set (s .out .now) (s .at) (s .tag)
+cast-put-byte-2 : tie.Need-cast-put-byte-2
+cast-put-byte-2 c = search needs
 
-slice-write-out-2 : tie.Need-slice-write-out-2
-slice-write-out-2 c = omega (arith, c .pre, first c)
-
-cast-out-2 : tie.Need-cast-out-2
-cast-out-2 c = search needs
-
-add-out-2 : tie.Need-add-out-2
-add-out-2 c = search needs
-
-slice-write-out-3 : tie.Need-slice-write-out-3
-slice-write-out-3 c =
-    let s = c .args in
-    omega (arith, c .pre, first c, length-set (set (s .out .now) (s .at) (s .tag)) (s .at + 1) (s .size / 256))
+put-byte-requires-3 : tie.Need-put-byte-requires-3
+put-byte-requires-3 c κs = search needs
 
 same-length : tie.Need-same-length
 same-length c = search needs
 
 returns : tie.Need-returns
 returns c =
-    let s = c .args in
-    three-placed (s .out .now) (s .at) (s .tag) (s .size / 256) (s .size % 256) (c .pre .0)
+    let high = c .before .before .before .before .before .before in
+    let tag = high .before .before .before .before in
+    put-then (tag .put-byte .ensures) (put-then (high .put-byte2 .ensures) (c .before .before .put-byte3 .ensures))
 
 pub write-head-spec : {M : Type 1} → statement M
 write-head-spec =
     tie.close
     (tie.spec
-    slice-write-out
-    cast-out
-    add-out
-    slice-write-out-2
-    cast-out-2
-    add-out-2
-    slice-write-out-3
+    put-byte-requires
+    cast-put-byte
+    put-byte-requires-2
+    cast-put-byte-2
+    put-byte-requires-3
     same-length
     returns)

@@ -1,3 +1,5 @@
+-- `dawnhangra::c::crossed_question` meets its contract.
+-- Assumes nothing.
 use mathlib.Core.Path.{refl}
 use borrow.Author.Needs.{needs}
 use Rattle.dawnhangra.proofs.c.crossed_question.Statement.{statement}

@@ -10,12 +10,12 @@ use Rattle.hierarchy.proofs.groups.hierarchy.Tie as tie
 first-refusal-requires : tie.Need-first-refusal-requires
 first-refusal-requires c κs = search needs
 
-refused-requires : tie.Need-refused-requires
-refused-requires c κs = search needs
+refused-count-requires : tie.Need-refused-count-requires
+refused-count-requires c κs = search needs
 
 returns : tie.Need-returns
 returns c =
-    rw (c .refused .ensures)
+    rw (c .refused-count .ensures)
     (hierarchy-standing _ _ _ _ _ (c .before .before .first-refusal .ensures) (c .before .if1 .taken))
 
 -- none of the refusals 1 to 4 is due
@@ -25,12 +25,12 @@ passed c = stood _ _ _ (c .before .first-refusal .ensures) (c .if1 .left)
 count-open-requires : tie.Need-count-open-requires
 count-open-requires c κs = shaped (passed c)
 
-refused-requires-2 : tie.Need-refused-requires-2
-refused-requires-2 c κs = search needs
+refused-count-requires-2 : tie.Need-refused-count-requires-2
+refused-count-requires-2 c κs = search needs
 
 returns-2 : tie.Need-returns-2
 returns-2 c =
-    rw (c .refused2 .ensures)
+    rw (c .refused-count2 .ensures)
     (hierarchy-open _ _ _ _ (passed (c .before .before .before))
     (rw (c .before .before .count-open .ensures) at (c .before .if2 .taken)))
 
@@ -56,10 +56,10 @@ hierarchy-spec =
     tie.close
     (tie.spec
     first-refusal-requires
-    refused-requires
+    refused-count-requires
     returns
     count-open-requires
-    refused-requires-2
+    refused-count-requires-2
     returns-2
     write-hierarchy-requires
     same-length

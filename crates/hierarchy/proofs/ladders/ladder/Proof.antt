@@ -12,15 +12,15 @@ use Rattle.hierarchy.proofs.ladders.ladder.Tie as tie
 first-refusal-requires : tie.Need-first-refusal-requires
 first-refusal-requires c κs = search needs
 
-refused-requires : tie.Need-refused-requires
-refused-requires c κs = search needs
+refused-count-requires : tie.Need-refused-count-requires
+refused-count-requires c κs = search needs
 
 returns : tie.Need-returns
 returns c =
-    rw (c .refused .ensures) (ladder-standing _ _ _ _ _ _ (c .before .before .first-refusal .ensures) (c .before .if1 .taken))
+    rw (c .refused-count .ensures) (ladder-standing _ _ _ _ _ _ (c .before .before .first-refusal .ensures) (c .before .if1 .taken))
 
-refused-requires-2 : tie.Need-refused-requires-2
-refused-requires-2 c κs = search needs
+refused-count-requires-2 : tie.Need-refused-count-requires-2
+refused-count-requires-2 c κs = search needs
 
 -- none of the refusals 1 to 4 is due
 passed : (c : tie.Else1) → let a = c .before .before .before .before .args in Stands (a .session) (a .table .now)
@@ -28,25 +28,25 @@ passed c = stood _ _ _ (c .before .first-refusal .ensures) (c .if1 .left)
 
 returns-2 : tie.Need-returns-2
 returns-2 c =
-    rw (c .refused2 .ensures) (ladder-no-class _ _ _ _ _ (passed (c .before .before)) (inl (c .before .if2 .taken)))
+    rw (c .refused-count2 .ensures) (ladder-no-class _ _ _ _ _ (passed (c .before .before)) (inl (c .before .if2 .taken)))
 
-refused-requires-3 : tie.Need-refused-requires-3
-refused-requires-3 c κs = search needs
+refused-count-requires-3 : tie.Need-refused-count-requires-3
+refused-count-requires-3 c κs = search needs
 
 returns-3 : tie.Need-returns-3
 returns-3 c =
-    rw (c .refused3 .ensures) (ladder-no-class _ _ _ _ _ (passed (c .before .before .before)) (inr (c .before .if3 .taken)))
+    rw (c .refused-count3 .ensures) (ladder-no-class _ _ _ _ _ (passed (c .before .before .before)) (inr (c .before .if3 .taken)))
 
 count-open-requires : tie.Need-count-open-requires
 count-open-requires c κs = shaped (passed (c .before .before))
 
-refused-requires-4 : tie.Need-refused-requires-4
-refused-requires-4 c κs = search needs
+refused-count-requires-4 : tie.Need-refused-count-requires-4
+refused-count-requires-4 c κs = search needs
 
 returns-4 : tie.Need-returns-4
 returns-4 c =
     let below = c .before .before .before in
-    rw (c .refused4 .ensures)
+    rw (c .refused-count4 .ensures)
     (ladder-open _ _ _ _ _ (passed (below .before .before)) (below .before .if2 .left) (below .if3 .left)
     (rw (c .before .before .count-open .ensures) at (c .before .if4 .taken)))
 
@@ -55,14 +55,14 @@ under-requires c κs =
     let below = c .before .before in
     (shaped (passed (below .before .before)), below .before .if2 .left, below .if3 .left)
 
-refused-requires-5 : tie.Need-refused-requires-5
-refused-requires-5 c κs = search needs
+refused-count-requires-5 : tie.Need-refused-count-requires-5
+refused-count-requires-5 c κs = search needs
 
 returns-5 : tie.Need-returns-5
 returns-5 c =
     let settled = c .before .before .before in
     let below = settled .before .before in
-    rw (c .refused5 .ensures)
+    rw (c .refused-count5 .ensures)
     (ladder-none _ _ _ _ _ (passed (below .before .before)) (below .before .if2 .left) (below .if3 .left)
     (rw (settled .before .count-open .ensures) at (settled .if4 .left))
     (denied (c .before .if5 .taken) (c .before .before .under .ensures)))
@@ -95,17 +95,17 @@ ladder-spec =
     tie.close
     (tie.spec
     first-refusal-requires
-    refused-requires
+    refused-count-requires
     returns
-    refused-requires-2
+    refused-count-requires-2
     returns-2
-    refused-requires-3
+    refused-count-requires-3
     returns-3
     count-open-requires
-    refused-requires-4
+    refused-count-requires-4
     returns-4
     under-requires
-    refused-requires-5
+    refused-count-requires-5
     returns-5
     write-ladder-requires
     same-length

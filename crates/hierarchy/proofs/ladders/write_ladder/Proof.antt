@@ -28,8 +28,8 @@ climb-requires c κs =
     let f = c .before .before .before .find-heads .ensures in
     (f, start-reached f (c .before .before .before .before .before .before .before .pre))
 
-refused-requires : tie.Need-refused-requires
-refused-requires c κs = search needs
+refused-count-requires : tie.Need-refused-count-requires
+refused-count-requires c κs = search needs
 
 same-length : tie.Need-same-length
 same-length c = search needs
@@ -39,7 +39,7 @@ returns c =
     let climbed = c .before .before .before .before .climb in
     let p = c .before .before .before .before .before .before .before .before .before .before .before .before .pre in
     let head = c .before .before .before .before .before .before .before .before .find-heads .ensures .at _ (p .lower-below) in
-    rw (c .refused .ensures)
+    rw (c .refused-count .ensures)
     (ladder-short p head (climbed .ensures) (climbed .kept .1 .1 .1 .1 .1 .1 .0) (c .before .if1 .taken))
 
 same-length-2 : tie.Need-same-length-2
@@ -62,7 +62,7 @@ write-ladder-spec =
     cast-start
     slice-aggregate-climb
     climb-requires
-    refused-requires
+    refused-count-requires
     same-length
     returns
     same-length-2

@@ -30,13 +30,15 @@ abbrev claims : ℕ → climb-lts.Claims
 claims t = (next-rung-reads.Asked, next-rung-reads.Learnt, climb-below t, climb.Post)
 
 climb-shared-slice-read-top : (t : ℕ) → climb-lts.Need-shared-slice-read-top (claims t) (climb-at t) climb.Post
-climb-shared-slice-read-top t c = let p = c .before .before .before .before .pre .1 in omega (arith, p .1 .goal-below, p .0 .room)
+climb-shared-slice-read-top t c =
+    let p = c .before .before .before .before .pre .1 in omega (arith, p .1 .goal-below, p .0 .room)
 
 climb-cast-top : (t : ℕ) → climb-lts.Need-cast-top (claims t) (climb-at t) climb.Post
 climb-cast-top t c = omega (arith, c .shared-slice-known3 .given (c .before .before .before .before .args .goal))
 
 climb-add-count : (t : ℕ) → climb-lts.Need-add-count (claims t) (climb-at t) climb.Post
-climb-add-count t c = let p = c .before .before .before .before .pre .1 in omega (arith, p .1 .few, p .0 .table .shape .few)
+climb-add-count t c =
+    let p = c .before .before .before .before .pre .1 in omega (arith, p .1 .few, p .0 .table .shape .few)
 
 climb-next-rung-requires : (t : ℕ) → climb-lts.Need-next-rung-requires (claims t) (climb-at t) climb.Post
 climb-next-rung-requires t c κs =
@@ -44,7 +46,9 @@ climb-next-rung-requires t c κs =
     (p .0, not-top (p .0) (p .1) (c .if1 .taken))
 
 climb-add-climb : (t : ℕ) → climb-lts.Need-add-climb (claims t) (climb-at t) climb.Post
-climb-add-climb t c = let p = c .before .before .before .before .before .before .pre .1 in omega (arith, p .1 .few, p .0 .table .shape .few)
+climb-add-climb t c =
+    let p = c .before .before .before .before .before .before .pre .1 in
+    omega (arith, p .1 .few, p .0 .table .shape .few)
 
 climb-climb-requires : (t : ℕ) → climb-lts.Need-climb-requires (claims t) (climb-at t) climb.Post
 climb-climb-requires t c κs =
@@ -53,7 +57,8 @@ climb-climb-requires t c κs =
     let p = s .pre .1 in
     let r = c .before .next-rung .ensures in
     let left = to-go (a .n) (a .table .now) (a .goal) in
-    let falls = rung-falls (a .n) (a .table .now) (p .0 .table .sound) r (left (c .before .next-rung .result) .1) (left (a .rung) .1) in
+    let next = left (c .before .next-rung .result) in
+    let falls = rung-falls (a .n) (a .table .now) (p .0 .table .sound) r (next .1) (left (a .rung) .1) in
     (rw (s .pre .0) at falls, (p .0, next-reached (p .0) (p .1) r))
 
 -- both ways to the last test know the rungs beyond this one
@@ -67,7 +72,9 @@ beyond t c =
     (λ w. rw (w .1, w .2) (beyond-none (at-top (p .0) (p .1) (w .0 .left)))) (c .if1 .came)
 
 climb-cast-rungs : (t : ℕ) → climb-lts.Need-cast-rungs (claims t) (climb-at t) climb.Post
-climb-cast-rungs t c = let p = c .before .before .before .before .before .before .pre .1 in omega (arith, p .1 .head .below, p .0 .table .shape .few)
+climb-cast-rungs t c =
+    let p = c .before .before .before .before .before .before .pre .1 in
+    omega (arith, p .1 .head .below, p .0 .table .shape .few)
 
 climb-slice-write-rungs : (t : ℕ) → climb-lts.Need-slice-write-rungs (claims t) (climb-at t) climb.Post
 climb-slice-write-rungs t c = omega (arith, beyond t (c .before) .counted)

@@ -3,10 +3,11 @@
 use mathlib.Core.Path.{_≡_}
 use Prim.Native.Nat.{_+_, _*_, _-_, _≤_}
 use native.Mathlib.Omega.{arith}
+use lib.ListN.{getD, length-append}
 use Rattle.lines.specs.Lines.{stepLines}
-use Rattle.lines.specs.Put.{pairsIn}
-use Rattle.lines.proofs.Putting.{put-length}
-use Rattle.lines.proofs.LineByLine.{LinesPut, no-line, step-put}
+use Rattle.lines.specs.Put.{LinesPut, pairsIn}
+use Rattle.buffers.proofs.Placing.{put-length}
+use Rattle.lines.proofs.LineByLine.{byte-short, no-line, step-put}
 use Rattle.lines.proofs.listing.put_steps.Statement.{statement}
 use Rattle.lines.proofs.listing.put_steps.Tie as tie
 
@@ -43,8 +44,21 @@ cast-upper c = omega (arith, c .shared-slice-known3 .given (2 * c .before .befor
 
 put-line-requires : tie.Need-put-line-requires Inv-loop μ-loop
 put-line-requires c κs =
-    let l = c .before .before .before .before .loop .inv .1 in
-    omega (arith, c .before .before .before .before .before .before .before .pre .1, l .short, put-length (l .put))
+    let l = c .before .before .before .before in
+    let start = l .before .before .before in
+    let steps = start .args .steps .now in
+    let i = l .loop .i in
+    let lower = c .before .before .shared-slice-known2 .given (2 * i) in
+    let upper = c .before .shared-slice-known3 .given (2 * i + 1) in
+    simp length-append
+    (omega (
+      arith,
+      start .pre .1,
+      l .loop .inv .1 .short,
+      put-length (l .loop .inv .1 .put),
+      byte-short (getD steps (2 * i) 0) (omega arith),
+      byte-short (getD steps (2 * i + 1) 0) (omega arith),
+    ))
 
 add-i : tie.Need-add-i Inv-loop μ-loop
 add-i c = omega arith
@@ -54,8 +68,15 @@ loop-less c = omega arith
 
 loop-again : tie.Need-loop-again Inv-loop μ-loop
 loop-again c =
-    let l = c .before .before .before .before .before .before .before .loop in
-    (omega arith, step-put (l .i) (c .before .before .before .before .before .before .before .before .before .before .args .steps .now) (l .inv .1) (c .before .before .put-line .ensures))
+    let upper = c .before .before .before .before in
+    let l = upper .before .before .before in
+    let i = l .loop .i in
+    let lower-byte = upper .before .shared-slice-known2 .given (2 * i) in
+    let upper-byte = upper .shared-slice-known3 .given (2 * i + 1) in (
+      omega arith,
+      step-put i (l .before .before .before .args .steps .now) (omega arith) (omega arith) (l .loop .inv .1)
+          (c .before .before .put-line .ensures),
+    )
 
 same-length : tie.Need-same-length Inv-loop μ-loop
 same-length c = put-length (c .before .loop .inv .1 .put)
@@ -63,7 +84,7 @@ same-length c = put-length (c .before .loop .inv .1 .put)
 returns : tie.Need-returns Inv-loop μ-loop
 returns c =
     let all : c .before .loop .i ≡ c .before .before .before .before .args .count = omega arith in
-    rw (← all) (c .before .loop .inv .1 .put)
+    rw (← all) (c .before .loop .inv .1)
 
 pub put-steps-spec : {M : Type 1} → statement M
 put-steps-spec =

@@ -1,91 +1,50 @@
 -- `lines::text::put_counts` meets its contract: each part stands behind the one before it.
 -- Assumes nothing.
 use native.Mathlib.Omega.{arith}
-use Rattle.lines.proofs.Putting.{put-then, decimal-short}
+use lib.ListN.{length-append}
+use Rattle.buffers.proofs.Placing.{put-then}
 use borrow.Author.Needs.{needs}
 use Rattle.lines.proofs.text.put_counts.Statement.{statement}
 use Rattle.lines.proofs.text.put_counts.Tie as tie
 
 put-labelled-requires : tie.Need-put-labelled-requires
-put-labelled-requires c κs = search needs
+put-labelled-requires c κs = omega (arith, simp length-append at (c .before .before .pre))
+
+put-further-requires : tie.Need-put-further-requires
+put-further-requires c κs =
+    let first = c .before .before .before in
+    let start = first .before .before .before in
+    omega (arith, simp length-append at (start .pre), first .put-labelled .ensures .ends, first .put-labelled .kept .0)
+
+put-further-requires-2 : tie.Need-put-further-requires-2
+put-further-requires-2 c κs =
+    let second = c .before .before .before in
+    let first = second .before .before .before .before in
+    let start = first .before .before .before in
+    omega (
+      arith,
+      simp length-append at (start .pre),
+      first .put-labelled .ensures .ends,
+      first .put-labelled .kept .0,
+      second .put-further .ensures .ends,
+      second .put-further .kept .0,
+    )
 
 put-byte-requires : tie.Need-put-byte-requires
 put-byte-requires c κs =
-    let s = c .before .before .before .before .before .before in
+    let third = c .before .before .before in
+    let second = third .before .before .before .before in
+    let first = second .before .before .before .before in
+    let start = first .before .before .before in
     omega (
       arith,
-      s .pre,
-      c .before .before .before .put-labelled .ensures .ends,
-      c .before .before .before .put-labelled .kept .0,
-      decimal-short (s .args .classes),
-    )
-
-put-labelled-requires-2 : tie.Need-put-labelled-requires-2
-put-labelled-requires-2 c κs =
-    let s = c .before .before .before .before .before .before .before .before .before .before in
-    omega (
-      arith,
-      s .pre,
-      c .before .before .before .before .before .before .before .put-labelled .ensures .ends,
-      c .before .before .before .before .before .before .before .put-labelled .kept .0,
-      decimal-short (s .args .classes),
-      c .before .before .before .put-byte .ensures .ends,
-      c .before .before .before .put-byte .kept .0,
-    )
-
-put-byte-requires-2 : tie.Need-put-byte-requires-2
-put-byte-requires-2 c κs =
-    let s = c .before .before .before .before .before .before .before .before .before .before .before .before .before .before in
-    omega (
-      arith,
-      s .pre,
-      c .before .before .before .before .before .before .before .before .before .before .before .put-labelled .ensures .ends,
-      c .before .before .before .before .before .before .before .before .before .before .before .put-labelled .kept .0,
-      decimal-short (s .args .classes),
-      c .before .before .before .before .before .before .before .put-byte .ensures .ends,
-      c .before .before .before .before .before .before .before .put-byte .kept .0,
-      c .before .before .before .put-labelled2 .ensures .ends,
-      c .before .before .before .put-labelled2 .kept .0,
-      decimal-short (s .args .tests),
-    )
-
-put-labelled-requires-3 : tie.Need-put-labelled-requires-3
-put-labelled-requires-3 c κs =
-    let s = c .before .before .before .before .before .before .before .before .before .before .before .before .before .before .before .before .before .before in
-    omega (
-      arith,
-      s .pre,
-      c .before .before .before .before .before .before .before .before .before .before .before .before .before .before .before .put-labelled .ensures .ends,
-      c .before .before .before .before .before .before .before .before .before .before .before .before .before .before .before .put-labelled .kept .0,
-      decimal-short (s .args .classes),
-      c .before .before .before .before .before .before .before .before .before .before .before .put-byte .ensures .ends,
-      c .before .before .before .before .before .before .before .before .before .before .before .put-byte .kept .0,
-      c .before .before .before .before .before .before .before .put-labelled2 .ensures .ends,
-      c .before .before .before .before .before .before .before .put-labelled2 .kept .0,
-      decimal-short (s .args .tests),
-      c .before .before .before .put-byte2 .ensures .ends,
-      c .before .before .before .put-byte2 .kept .0,
-    )
-
-put-byte-requires-3 : tie.Need-put-byte-requires-3
-put-byte-requires-3 c κs =
-    let s = c .before .before .before .before .before .before .before .before .before .before .before .before .before .before .before .before .before .before .before .before .before .before in
-    omega (
-      arith,
-      s .pre,
-      c .before .before .before .before .before .before .before .before .before .before .before .before .before .before .before .before .before .before .before .put-labelled .ensures .ends,
-      c .before .before .before .before .before .before .before .before .before .before .before .before .before .before .before .before .before .before .before .put-labelled .kept .0,
-      decimal-short (s .args .classes),
-      c .before .before .before .before .before .before .before .before .before .before .before .before .before .before .before .put-byte .ensures .ends,
-      c .before .before .before .before .before .before .before .before .before .before .before .before .before .before .before .put-byte .kept .0,
-      c .before .before .before .before .before .before .before .before .before .before .before .put-labelled2 .ensures .ends,
-      c .before .before .before .before .before .before .before .before .before .before .before .put-labelled2 .kept .0,
-      decimal-short (s .args .tests),
-      c .before .before .before .before .before .before .before .put-byte2 .ensures .ends,
-      c .before .before .before .before .before .before .before .put-byte2 .kept .0,
-      c .before .before .before .put-labelled3 .ensures .ends,
-      c .before .before .before .put-labelled3 .kept .0,
-      decimal-short (s .args .pairs),
+      simp length-append at (start .pre),
+      first .put-labelled .ensures .ends,
+      first .put-labelled .kept .0,
+      second .put-further .ensures .ends,
+      second .put-further .kept .0,
+      third .put-further2 .ensures .ends,
+      third .put-further2 .kept .0,
     )
 
 same-length : tie.Need-same-length
@@ -93,21 +52,20 @@ same-length c = search needs
 
 returns : tie.Need-returns
 returns c =
-    put-then (c .before .before .before .before .before .before .before .before .before .before .before .before .before .before .before .before .before .before .before .before .before .before .put-labelled .ensures)
-    (put-then (c .before .before .before .before .before .before .before .before .before .before .before .before .before .before .before .before .before .before .put-byte .ensures)
-    (put-then (c .before .before .before .before .before .before .before .before .before .before .before .before .before .before .put-labelled2 .ensures)
-    (put-then (c .before .before .before .before .before .before .before .before .before .before .put-byte2 .ensures)
-    (put-then (c .before .before .before .before .before .before .put-labelled3 .ensures) (c .before .before .put-byte3 .ensures)))))
+    let third = c .before .before .before .before .before .before in
+    let second = third .before .before .before .before in
+    let first = second .before .before .before .before in
+    put-then (first .put-labelled .ensures)
+    (put-then (second .put-further .ensures)
+    (put-then (third .put-further2 .ensures) (c .before .before .put-byte .ensures)))
 
 pub put-counts-spec : {M : Type 1} → statement M
 put-counts-spec =
     tie.close
     (tie.spec
     put-labelled-requires
+    put-further-requires
+    put-further-requires-2
     put-byte-requires
-    put-labelled-requires-2
-    put-byte-requires-2
-    put-labelled-requires-3
-    put-byte-requires-3
     same-length
     returns)

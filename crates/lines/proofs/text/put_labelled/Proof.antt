@@ -1,6 +1,6 @@
 -- `lines::text::put_labelled` meets its contract: the number stands behind the letter.
 -- Assumes nothing.
-use Rattle.lines.proofs.Putting.{put-then}
+use Rattle.buffers.proofs.Placing.{put-then}
 use borrow.Author.Needs.{needs}
 use Rattle.lines.proofs.text.put_labelled.Statement.{statement}
 use Rattle.lines.proofs.text.put_labelled.Tie as tie

@@ -1,6 +1,6 @@
 -- `lines::text::put_spaced` meets its contract: the number stands behind the space.
 -- Assumes nothing.
-use Rattle.lines.proofs.Putting.{put-then}
+use Rattle.buffers.proofs.Placing.{put-then}
 use borrow.Author.Needs.{needs}
 use Rattle.lines.proofs.text.put_spaced.Statement.{statement}
 use Rattle.lines.proofs.text.put_spaced.Tie as tie

@@ -5,7 +5,7 @@ use Prim.Native.Nat.{_-_, _≤_}
 use native.Mathlib.Omega.{arith}
 use lib.ListN.{length}
 use borrow.Author.Needs.{needs}
-use Rattle.book.proofs.Placing.{part-length, replaced-length}
+use Rattle.buffers.proofs.Parts.{part-length, replaced-length}
 use Rattle.print.proofs.input.fill.Statement.{statement}
 use Rattle.print.proofs.input.fill.Tie as tie
 

@@ -6,8 +6,8 @@ use native.Mathlib.Omega.{arith}
 use borrow.Author.Needs.{needs}
 use Rattle.promise.specs.Hierarchy.{Direct}
 use Rattle.promise.proofs.Hierarchy.{direct?}
-use Rattle.marks.proofs.Answers.{refuted}
-use Rattle.marks.proofs.Noting.{SoFar, Along, so-far-none, along-none, few, hit, miss, row-end, all-noted}
+use Rattle.marks.proofs.Answers.{refuted, granted, denied}
+use Rattle.buffers.proofs.Noting.{SoFar, Along, so-far-none, along-none, few, hit, miss, row-end, all-noted}
 use Rattle.steps.proofs.HeadsFound.{head-at}
 use Rattle.steps.proofs.Between.{none-yet, no-steps}
 use Rattle.steps.proofs.direct.list_steps.Statement.{statement}
@@ -32,6 +32,19 @@ loop-holds c = (omega arith, so-far-none _)
 is-head-requires : tie.Need-is-head-requires Inv-loop2 μ-loop2 Inv-loop μ-loop
 is-head-requires c κs = search needs
 
+add-a : tie.Need-add-a Inv-loop2 μ-loop2 Inv-loop μ-loop
+add-a c = omega arith
+
+loop-less : tie.Need-loop-less Inv-loop2 μ-loop2 Inv-loop μ-loop
+loop-less c = omega arith
+
+loop-again : tie.Need-loop-again Inv-loop2 μ-loop2 Inv-loop μ-loop
+loop-again c =
+    let turn = c .before .before in
+    let l = turn .before in
+    let own = head-at (l .before .before .before .before .pre) (turn .loop-test .taken) in
+    (omega arith, no-steps (λ p. denied (c .if1 .taken) (c .before .is-head .ensures) (own .1 p)) (l .loop .inv .1))
+
 slice-aggregate-find-thirds : tie.Need-slice-aggregate-find-thirds Inv-loop2 μ-loop2 Inv-loop μ-loop
 slice-aggregate-find-thirds c = search needs
 
@@ -55,7 +68,7 @@ is-direct-requires c κs =
     let f = turn .before .before .before .before .before .pre in (
       f,
       found .find-thirds .ensures,
-      head-at f (turn .loop-test .taken) .0 (tested .before .is-head .ensures .0 (tested .if1 .taken)),
+      head-at f (turn .loop-test .taken) .0 (granted (tested .if1 .left) (tested .before .is-head .ensures)),
       c .before .loop2-test .taken,
     )
 
@@ -64,8 +77,8 @@ so-few : (c : tie.In-loop2 Inv-loop2 μ-loop2 Inv-loop μ-loop) → c .before .l
 so-few c =
     let turn = c .before .before .before .before .before .before .before in
     let l = turn .before in
-    few (c .before .loop2 .inv .1 .carry _ (l .loop .inv .1)) (l .before .before .before .before .pre .table .shape .few)
-    (turn .loop-test .taken) (c .loop2-test .taken)
+    few (c .before .loop2 .inv .1 .carry _ (l .loop .inv .1))
+    (l .before .before .before .before .pre .table .shape .few) (turn .loop-test .taken) (c .loop2-test .taken)
 
 mul-put-pair : tie.Need-mul-put-pair Inv-loop2 μ-loop2 Inv-loop μ-loop
 mul-put-pair c = omega (arith, so-few (c .before .before .before .before))
@@ -95,24 +108,16 @@ loop2-again c =
       },
     )
 
-add-a : tie.Need-add-a Inv-loop2 μ-loop2 Inv-loop μ-loop
-add-a c = omega arith
+add-a-2 : tie.Need-add-a-2 Inv-loop2 μ-loop2 Inv-loop μ-loop
+add-a-2 c = omega arith
 
-loop-less : tie.Need-loop-less Inv-loop2 μ-loop2 Inv-loop μ-loop
-loop-less c = omega arith
+loop-less-2 : tie.Need-loop-less-2 Inv-loop2 μ-loop2 Inv-loop μ-loop
+loop-less-2 c = omega arith
 
-loop-again : tie.Need-loop-again Inv-loop2 μ-loop2 Inv-loop μ-loop
-loop-again c =
-    let turn = c .before .before in
-    let h = turn .before .loop .inv .1 in
-    let f = turn .before .before .before .before .before .pre in (
-      omega arith,
-      ⊎-elim (λ w. rw (w .6, w .7) (row-end (w .4 .inv .1 .carry _ h) (omega (arith, w .4 .inv .0, w .5 .left))))
-          (λ w.
-          rw (w .1, w .2)
-          (no-steps (λ p. refuted (w .0 .left) (c .before .is-head .ensures) (head-at f (turn .loop-test .taken) .1 p)) h))
-          (c .if1 .came),
-    )
+loop-again-2 : tie.Need-loop-again-2 Inv-loop2 μ-loop2 Inv-loop μ-loop
+loop-again-2 c =
+    let l = c .before .before .before .before .before .before .before .before in
+    (omega arith, row-end (c .before .loop2 .inv .1 .carry _ (l .loop .inv .1)) (omega arith))
 
 same-length : tie.Need-same-length Inv-loop2 μ-loop2 Inv-loop μ-loop
 same-length c = c .before .loop .inv .1 .noted .size
@@ -130,6 +135,9 @@ list-steps-spec =
     μ-loop
     loop-holds
     is-head-requires
+    add-a
+    loop-less
+    loop-again
     slice-aggregate-find-thirds
     find-thirds-requires
     loop2-holds
@@ -141,8 +149,8 @@ list-steps-spec =
     add-b
     loop2-less
     loop2-again
-    add-a
-    loop-less
-    loop-again
+    add-a-2
+    loop-less-2
+    loop-again-2
     same-length
     returns)

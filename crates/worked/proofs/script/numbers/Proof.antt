@@ -27,6 +27,12 @@ add-i c = search needs
 is-digit-requires : tie.Need-is-digit-requires Inv-loop μ-loop
 is-digit-requires c κs = search needs
 
+loop-less : tie.Need-loop-less Inv-loop μ-loop
+loop-less c = search needs
+
+loop-again : tie.Need-loop-again Inv-loop μ-loop
+loop-again c = search needs
+
 with-digit-requires : tie.Need-with-digit-requires Inv-loop μ-loop
 with-digit-requires c κs = search needs
 
@@ -42,20 +48,14 @@ slice-write-out c = search needs
 add-count : tie.Need-add-count Inv-loop μ-loop
 add-count c = search needs
 
-loop-less : tie.Need-loop-less Inv-loop μ-loop
-loop-less c = search needs
-
-loop-again : tie.Need-loop-again Inv-loop μ-loop
-loop-again c =
-    let l = c .before .before .before .before .before .before .before .before .before .loop in
-    let same = length-set (l .out) (l .count) (c .before .before .before .before .with-digit .result) in
-    (omega arith, omega (arith, same), same ∙ l .inv .2)
-
 loop-less-2 : tie.Need-loop-less-2 Inv-loop μ-loop
 loop-less-2 c = search needs
 
 loop-again-2 : tie.Need-loop-again-2 Inv-loop μ-loop
-loop-again-2 c = search needs
+loop-again-2 c =
+    let l = c .before .before .before .before .before .before .before .before .before .loop in
+    let same = length-set (l .out) (l .count) (c .before .before .before .before .with-digit .result) in
+    (omega arith, omega (arith, same), same ∙ l .inv .2)
 
 loop-less-3 : tie.Need-loop-less-3 Inv-loop μ-loop
 loop-less-3 c = search needs
@@ -87,13 +87,13 @@ numbers-spec =
     shared-slice-read-letter
     add-i
     is-digit-requires
+    loop-less
+    loop-again
     with-digit-requires
     byte-at-requires
     is-digit-requires-2
     slice-write-out
     add-count
-    loop-less
-    loop-again
     loop-less-2
     loop-again-2
     loop-less-3

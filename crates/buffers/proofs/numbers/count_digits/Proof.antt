@@ -1,0 +1,41 @@
+-- `buffers::numbers::count_digits` meets its contract: a digit is counted for each that was taken off.
+-- Assumes nothing.
+use mathlib.Core.Path.{_≡_, _∙_, ap}
+use mathlib.Core.List.{List, [], _∷_}
+use Prim.Native.Nat.{ℕ, _+_, _/_, _%_, _≤_}
+use native.Mathlib.Omega.{arith}
+use lib.ListN.{length, length-append}
+use Rattle.buffers.specs.Decimal.{digit-0, decimal}
+use Rattle.buffers.proofs.Decimals.{decimal-one, decimal-more, decimal-longest}
+use Rattle.buffers.proofs.numbers.count_digits.Statement.{statement}
+use Rattle.buffers.proofs.numbers.count_digits.Tie as tie
+
+one-less : (x : ℕ) → 10 ≤ x → length (decimal x) ≡ length (decimal (x / 10)) + 1
+one-less x h =
+    ap (λ (w : List ℕ). length w) (decimal-more x h) ∙ length-append (decimal (x / 10)) ((digit-0 + x % 10) ∷ [])
+
+abbrev Inv-loop : tie.InvT-loop
+Inv-loop number count₀ rest₀ count rest = count + length (decimal rest) ≡ length (decimal number) + 1
+
+abbrev μ-loop : tie.MeasureT-loop
+μ-loop number count₀ rest₀ count rest = rest
+
+loop-holds : tie.Need-loop-holds Inv-loop μ-loop
+loop-holds c = omega arith
+
+add-count : tie.Need-add-count Inv-loop μ-loop
+add-count c = omega (arith, decimal-longest (c .before .before .args .number) (omega arith))
+
+loop-less : tie.Need-loop-less Inv-loop μ-loop
+loop-less c = omega arith
+
+loop-again : tie.Need-loop-again Inv-loop μ-loop
+loop-again c = omega (arith, one-less (c .before .loop .rest) (omega arith))
+
+returns : tie.Need-returns Inv-loop μ-loop
+returns c =
+    omega (arith, ap (λ (w : List ℕ). length w) (decimal-one (c .before .loop .rest) (omega arith)))
+
+pub count-digits-spec : {M : Type 1} → statement M
+count-digits-spec =
+    tie.close (tie.spec Inv-loop μ-loop loop-holds add-count loop-less loop-again returns)

@@ -1,0 +1,20 @@
+-- `dawnhangra::c::dawnhangra_ladder` meets its contract: what C gets is the image of what the call gave.
+-- Assumes nothing.
+use mathlib.Core.Path.{refl}
+use Rattle.promise.specs.Hierarchy.{ladder}
+use Rattle.promise.proofs.Crossing.{writes-crosses}
+use borrow.Author.Needs.{needs}
+use Rattle.dawnhangra.proofs.c.dawnhangra_ladder.Statement.{statement}
+use Rattle.dawnhangra.proofs.c.dawnhangra_ladder.Tie as tie
+
+ladder-requires : tie.Need-ladder-requires
+ladder-requires c κs = search needs
+
+crossed-count-requires : tie.Need-crossed-count-requires
+crossed-count-requires c κs = search needs
+
+returns : tie.Need-returns
+returns c = rw (c .crossed-count .ensures) (writes-crosses (ladder _ _ _ _ _) (λ o. refl) (c .before .ladder .ensures))
+
+pub dawnhangra-ladder-spec : {M : Type 1} → statement M
+dawnhangra-ladder-spec = tie.close (tie.spec ladder-requires crossed-count-requires returns)
