@@ -2,6 +2,7 @@
 -- fact after the other. And a field's refusals by its bytes, as document 01 words them.
 -- Assumes nothing.
 use mathlib.Core.Path.{_≡_, refl, ap}
+use mathlib.Core.Logic.{_≢_}
 use mathlib.Core.List.{List, [], _∷_, _++_}
 use Prim.Native.Nat.{ℕ, zero, suc, _+_, _≤_, _<_}
 use native.Mathlib.Nat.{add-zero}
@@ -10,8 +11,9 @@ use lib.ListN.{length, getD, drop, length-drop, drop-of-length-le}
 use lib.Seq.{getD-drop, drop-drop}
 use Rattle.order.proofs.Refusals.{stage}
 use Rattle.promise.specs.declared.Stage.{Stage}
+use Rattle.promise.specs.declared.Stage.the-variants.{Start}
 use Rattle.promise.specs.Tell.{Kind}
-use Rattle.promise.specs.Book.{rowOf, sizeOf, Item, factsFrom, fieldSays, stageBehind, itemsFrom}
+use Rattle.promise.specs.Book.{rowOf, sizeOf, Item, factsFrom, fieldSays, stageBehind, itemsFrom, itemsOf}
 
 -- as many fields as there are bytes are enough
 items-fuel :
@@ -50,6 +52,11 @@ step (suc k) stage at (tag ∷ bytes) some h =
 -- the items from place at on
 abbrev pub itemsAt : List ℕ → Stage → ℕ → List Item
 itemsAt book stage at = itemsFrom (length book) stage at (drop at book)
+
+-- a book that is not empty, from its start on
+pub items-start : (book : List ℕ) → length book ≢ 0 → itemsOf book ≡ itemsAt book Start 0
+items-start [] some = absurd (some refl)
+items-start (tag ∷ bytes) some = refl
 
 -- at the end of the book
 pub items-end : (book : List ℕ) (stage : Stage) → itemsAt book stage (length book) ≡ []

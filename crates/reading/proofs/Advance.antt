@@ -1,224 +1,217 @@
 -- Facts followed one by one, and fields one by one: what is followed from here on gives what was to be followed from the start.
 -- Assumes nothing.
 use mathlib.Core.Path.{_≡_, refl, sym, _∙_, ap, subst}
-use mathlib.Core.Logic.{_≢_}
-use mathlib.Core.Bool.{Bool, true, false}
+use mathlib.Core.Logic.{_≢_, inl, inr}
+use mathlib.Core.Bool.{false≢true}
 use mathlib.Core.List.{List, [], _∷_, _++_}
-use Prim.Native.Nat.{ℕ, zero, suc, _+_, _*_, _≤_, _<_}
-use native.Mathlib.Nat.{suc-mul}
+use Prim.Native.Nat.{ℕ, zero, suc, _+_, _*_, _/_, _%_, _≤_, _<_}
+use native.Mathlib.Nat.{suc-mul, div-add-mod'}
 use native.Mathlib.Omega.{arith}
-use borrow.Author.Tests.{ne-eqb}
-use lib.Dec.{eqb}
-use lib.ListN.{length}
+use lib.ListN.{length, getD, drop}
 use Rattle.order.specs.Refusals.{First}
+use Rattle.promise.specs.declared.Stage.{Stage}
+use Rattle.promise.specs.declared.Stage.the-variants.{Start, Begun}
 use Rattle.promise.specs.declared.Session.{Session}
 use Rattle.promise.specs.declared.Reply.{Reply}
 use Rattle.promise.specs.Refusals.{standing}
-use Rattle.promise.specs.Sessions.{noSession}
-use Rattle.promise.specs.Book.{Tag, lengthAt, Item, unlessFault, ending, itemsOf}
-use Rattle.promise.specs.Read.{Follows, BookRead}
-use Rattle.promise.proofs.Items.{itemsAt, items-end, tells-step, answers-step, tells-end, answers-end}
-use Rattle.session.specs.Facts.{stoppedAt, replyOf}
-use Rattle.reading.specs.Parts.{widthOf, factAt, factsIn, HasFacts, faultAt, saidIn, Led, FactsReady, FieldReady}
-use Rattle.reading.proofs.Following.{Plain, follows-on, follows-stop}
-use Rattle.reading.proofs.Faults.{items-read, Faultless, faultless, said-plain}
+use Rattle.promise.specs.Sessions.{noSession, reply, accepted}
+use Rattle.promise.specs.Tell.{kindOf}
+use Rattle.promise.specs.Book.{onceBegun, rowOf, lengthOf, sizeOf, fieldRefusals, Item, factsFrom, stageBehind, itemsOf, Follows, BookRead}
+use Rattle.promise.proofs.Items.{itemsAt, items-start, items-end, items-field, facts-step, facts-end}
+use Rattle.promise.proofs.Book.{ends-within, stage-behind}
+use Rattle.reading.specs.declared.tags.Row.{Row}
+use Rattle.reading.specs.Parts.{verdictBy, WideRow, factAt, factsAt, saidAt, PartFollowed, FactsReady, FieldReady}
+use Rattle.reading.proofs.Rows.{wide-most}
+use Rattle.reading.proofs.Following.{follows-on, follows-stop}
 
 -- the facts of a field
 
-facts-step :
-    (tag : Tag) (book : List ℕ) (at e : ℕ) → HasFacts tag → at + widthOf tag ≤ e → e ≤ length book
-    → factsIn tag book at e ≡ factAt tag book at ∷ factsIn tag book (at + widthOf tag) e
-facts-step Tag.class-count book at e h l k = absurd h
-facts-step Tag.yes-facts book at e h l k = tells-step 1 at e book l k
-facts-step Tag.no-facts book at e h l k = tells-step 0 at e book l k
-facts-step Tag.answers book at e h l k = answers-step at e book l k
-facts-step Tag.unknown book at e h l k = absurd h
-
-facts-end : (tag : Tag) (book : List ℕ) (e : ℕ) → factsIn tag book e e ≡ []
-facts-end Tag.class-count book e = refl
-facts-end Tag.yes-facts book e = tells-end 1 e book
-facts-end Tag.no-facts book e = tells-end 0 e book
-facts-end Tag.answers book e = answers-end e book
-facts-end Tag.unknown book e = refl
+-- so many facts from an index on
+abbrev factsLeft : Row → List ℕ → ℕ → ℕ → List Item
+factsLeft row book at count =
+    factsFrom count (row .width) (kindOf (row .answers)) (verdictBy (row .answers) (row .verdict)) at (drop at book)
 
 -- the facts from index at on may be followed, and following them follows all
 pub record Facing
-    (tag : Tag) (book : List ℕ) (from e : ℕ) (s₀ : Session) (t₀ : List ℕ) (at : ℕ) (s : Session) (t : List ℕ) : Type 0 where
-  pub ready : FactsReady tag book at e s t
-  pub size : length t ≡ length t₀
-  pub all : (r : Reply) (t′ : List ℕ) → Follows (factsIn tag book at e) s t r t′ → Follows (factsIn tag book from e) s₀ t₀ r t′
+    (row : Row) (book : List ℕ) (from size : ℕ) (s₀ : Session) (t₀ : List ℕ) (at : ℕ) (s : Session) (t : List ℕ) : Type 0 where
+  pub wide : WideRow row
+  pub count : ℕ
+  pub whole : from + size ≡ at + count * row .width
+  pub within : from + size ≤ length book
+  pub stands : First (standing s t []) 0
+  pub kept : length t ≡ length t₀
+  pub all : (r : Reply) (t′ : List ℕ) → Follows (factsLeft row book at count) s t r t′ → Follows (factsAt row book from size) s₀ t₀ r t′
 
 pub facing :
-    {tag : Tag} {book : List ℕ} {from e : ℕ} {s : Session} {t : List ℕ} → FactsReady tag book from e s t
-    → Facing tag book from e s t from s t
-facing h = record { ready = h; size = refl; all = λ r t′ f. f }
+    {row : Row} {book : List ℕ} {from size : ℕ} {s : Session} {t : List ℕ} → FactsReady row book from size s t
+    → size % row .width ≡ 0 → Facing row book from size s t from s t
+facing {row} {size = size} h e =
+    record {
+      wide = h .wide;
+      count = size / row .width;
+      whole = omega (arith, div-add-mod' size (row .width));
+      within = h .within;
+      stands = h .stands;
+      kept = refl;
+      all = λ r t′ f. f;
+    }
 
 module _
-    {tag : Tag} {book : List ℕ} {from e : ℕ} {s₀ : Session} {t₀ : List ℕ} {at : ℕ} {s : Session} {t : List ℕ}
-    (h : Facing tag book from e s₀ t₀ at s t)
+    {row : Row} {book : List ℕ} {from size : ℕ} {s₀ : Session} {t₀ : List ℕ} {at : ℕ} {s : Session} {t : List ℕ}
+    (h : Facing row book from size s₀ t₀ at s t)
   where
     -- a fact is left, and it is whole
-    one-left : at < e → (k : ℕ) × (e ≡ at + suc k * widthOf tag)
-    one-left l = go (h .ready .count) (h .ready .whole)
+    one-left : at < from + size → (k : ℕ) × (h .count ≡ suc k)
+    one-left l = go (h .count) (h .whole)
       where
-        go : (k : ℕ) → e ≡ at + k * widthOf tag → (k : ℕ) × (e ≡ at + suc k * widthOf tag)
+        go : (k : ℕ) → from + size ≡ at + k * row .width → (j : ℕ) × (k ≡ suc j)
         go zero w = absurd (omega arith)
-        go (suc k) w = (k, w)
+        go (suc k) w = (k, refl)
 
-    pub fits : at < e → at + widthOf tag ≤ e
-    fits l = let left = one-left l in omega (arith, left .1, suc-mul (left .0) (widthOf tag))
+    -- a fact has some bytes
+    pub some-bytes : 2 ≤ row .width
+    some-bytes = wide-most row (h .wide) .0
 
-    pub one-ready : at < e → FactsReady tag book at (at + widthOf tag) s t
+    pub fits : at < from + size → at + row .width ≤ from + size
+    fits l =
+        let left = one-left l in
+        let w = rw (left .1) at (h .whole) in omega (arith, suc-mul (left .0) (row .width))
+
+    pub one-ready : at < from + size → FactsReady row book at (row .width) s t
     one-ready l =
-        record {
-          has-facts = h .ready .has-facts;
-          count = 1;
-          whole = omega arith;
-          within = omega (arith, fits l, h .ready .within);
-          stands = h .ready .stands;
-        }
+        record { wide = h .wide; within = omega (arith, fits l, h .within); stands = h .stands }
 
-    module _ (l : at < e) {r : Reply} {t₁ : List ℕ} (led : Led (factAt tag book at ∷ []) s t r t₁) where
-      from-here : {q : Reply} {t′ : List ℕ} → Follows (factAt tag book at ∷ factsIn tag book (at + widthOf tag) e) s t q t′ → Follows (factsIn tag book from e) s₀ t₀ q t′
+    module _ (l : at < from + size) {r : Reply} {t₁ : List ℕ} (part : PartFollowed (factAt row book at ∷ []) s t r t₁) where
+      abbrev facts-behind : List Item
+      facts-behind = factsLeft row book (at + row .width) (one-left l .0)
+
+      from-here : {q : Reply} {t′ : List ℕ} → Follows (factAt row book at ∷ facts-behind) s t q t′ → Follows (factsAt row book from size) s₀ t₀ q t′
       from-here {q} {t′} f =
           h .all q t′
           (subst (λ (items : List Item). Follows items s t q t′)
-          (sym (facts-step tag book at e (h .ready .has-facts) (fits l) (h .ready .within))) f)
+          (sym
+          (ap (factsLeft row book at) (one-left l .1)
+          ∙ facts-step (one-left l .0) (row .width) (kindOf (row .answers)) (verdictBy (row .answers) (row .verdict)) at book))
+          f)
 
-      pub refused-here : r .number ≢ 0 → Led (factsIn tag book from e) s₀ t₀ r t₁
+      pub refused-here : r .number ≢ 0 → PartFollowed (factsAt row book from size) s₀ t₀ r t₁
       refused-here ne =
           record {
-            follows =
-                from-here
-                (follows-stop (factsIn tag book (at + widthOf tag) e) r t₁ ne (factAt tag book at ∷ []) s t (led .follows));
+            follows = from-here (follows-stop facts-behind r t₁ ne (factAt row book at ∷ []) s t (part .follows));
             stands = λ z. absurd (ne z);
           }
 
-      pub facing-next : r .number ≡ 0 → length t₁ ≡ length t → Facing tag book from e s₀ t₀ (at + widthOf tag) (r .session) t₁
-      facing-next z kept =
+      pub facing-next : r .number ≡ 0 → length t₁ ≡ length t → Facing row book from size s₀ t₀ (at + row .width) (r .session) t₁
+      facing-next z same =
           let left = one-left l in
+          let w = rw (left .1) at (h .whole) in
           record {
-            ready =
-                record {
-                  has-facts = h .ready .has-facts;
-                  count = left .0;
-                  whole = omega (arith, left .1, suc-mul (left .0) (widthOf tag));
-                  within = h .ready .within;
-                  stands = led .stands z;
-                };
-            size = kept ∙ h .size;
-            all = λ q t′ f.
-                from-here
-                (follows-on (factsIn tag book (at + widthOf tag) e) r q t₁ t′ z (factAt tag book at ∷ []) s t tt (led .follows) f);
+            wide = h .wide;
+            count = left .0;
+            whole = omega (arith, suc-mul (left .0) (row .width));
+            within = h .within;
+            stands = part .stands z;
+            kept = same ∙ h .kept;
+            all = λ q t′ f. from-here (follows-on facts-behind r q t₁ t′ z (factAt row book at ∷ []) s t (part .follows) f);
           }
 
-    pub all-followed : e ≤ at → Led (factsIn tag book from e) s₀ t₀ (replyOf 0 s) t
+    pub all-followed : from + size ≤ at → PartFollowed (factsAt row book from size) s₀ t₀ (accepted s) t
     all-followed l =
-        let same : at ≡ e = omega (arith, h .ready .whole) in
         record {
           follows =
-              h .all (replyOf 0 s) t
-              (subst (λ (items : List Item). Follows items s t (replyOf 0 s) t)
-              (sym (ap (λ (k : ℕ). factsIn tag book k e) same ∙ facts-end tag book e)) (refl, refl));
-          stands = λ _. h .ready .stands;
+              h .all (accepted s) t
+              (subst (λ (items : List Item). Follows items s t (accepted s) t)
+              (sym
+              (ap (factsLeft row book at) (none (h .count) (h .whole))
+              ∙ facts-end (row .width) (kindOf (row .answers)) (verdictBy (row .answers) (row .verdict)) at (drop at book)))
+              (refl, refl));
+          stands = λ _. h .stands;
         }
+      where
+        none : (k : ℕ) → from + size ≡ at + k * row .width → k ≡ 0
+        none zero w = refl
+        none (suc k) w = absurd (omega (arith, some-bytes, suc-mul k (row .width)))
 
 -- the fields of a book
 
--- a field that was refused, or followed without a refusal: then it has no fault
-module _ (at : ℕ) (items rest : List Item) (s : Session) (t : List ℕ) where
-  field-stop :
-      (k : ℕ) (r : Reply) (t′ : List ℕ) → r .number ≢ 0 → Follows (unlessFault k at items) s t r t′
-      → Follows (unlessFault k at (items ++ rest)) s t r t′
-  field-stop zero r t′ ne f = follows-stop rest r t′ ne items s t f
-  field-stop (suc k) r t′ ne f = f
-
-  field-on :
-      (k : ℕ) (r₁ r : Reply) (t₁ t′ : List ℕ) → r₁ .number ≡ 0 → Plain items → Follows (unlessFault k at items) s t r₁ t₁
-      → Follows rest (r₁ .session) t₁ r t′ → Follows (unlessFault k at (items ++ rest)) s t r t′
-  field-on zero r₁ r t₁ t′ z plain f h = follows-on rest r₁ r t₁ t′ z items s t plain f h
-  field-on (suc k) r₁ r t₁ t′ z plain f h = absurd (omega (arith, ap (λ (x : Reply). x .number) (f .0)))
-
-  no-fault : (k : ℕ) (r : Reply) (t′ : List ℕ) → r .number ≡ 0 → Follows (unlessFault k at items) s t r t′ → k ≡ 0
-  no-fault zero r t′ z f = refl
-  no-fault (suc k) r t′ z f = absurd (omega (arith, ap (λ (x : Reply). x .number) (f .0)))
-
-pub field-faulted :
-    (items : List Item) {at : ℕ} {s : Session} {t : List ℕ} (k : ℕ) → k ≢ 0
-    → Led (unlessFault k at items) s t (stoppedAt k at s) t
-field-faulted items zero ne = absurd (ne refl)
-field-faulted items (suc k) ne = record { follows = (refl, refl); stands = λ e. absurd (omega arith) }
-
 -- the book from index at on may be read, and following its items follows all
-pub record Reading (book t₀ : List ℕ) (at : ℕ) (s : Session) (t : List ℕ) : Type 0 where
+pub record Reading (book t₀ : List ℕ) (at : ℕ) (stage : Stage) (s : Session) (t : List ℕ) : Type 0 where
   pub within : at ≤ length book
-  pub size : length t ≡ length t₀
-  pub stands : at ≢ 0 → First (standing s t []) 0
-  pub all :
-      (r : Reply) (t′ : List ℕ) → Follows (itemsAt book (eqb at 0) at) s t r t′ → Follows (itemsOf book) noSession t₀ r t′
+  pub kept : length t ≡ length t₀
+  pub stands : stage ≡ Begun → First (standing s t []) 0
+  pub all : (r : Reply) (t′ : List ℕ) → Follows (itemsAt book stage at) s t r t′ → Follows (itemsOf book) noSession t₀ r t′
 
-pub reading : (book t : List ℕ) → Reading book t 0 noSession t
-reading book t = record { within = omega arith; size = refl; stands = λ ne. absurd (ne refl); all = λ r t′ f. f }
-
--- "book empty"
-pub read-empty : (book t : List ℕ) → length book ≡ 0 → BookRead book t (stoppedAt 12 0 noSession) t
-read-empty book t e =
+pub reading : (book t : List ℕ) → length book ≢ 0 → Reading book t 0 Start noSession t
+reading book t some =
     record {
-      followed =
-          subst (λ (items : List Item). Follows items noSession t (stoppedAt 12 0 noSession) t)
-          (sym (subst (λ (k : ℕ). itemsAt book true k ≡ ending true) e (items-end book true))) (refl, refl);
+      within = omega arith;
+      kept = refl;
+      stands = λ e. absurd (false≢true (ap onceBegun e));
+      all = λ r t′ f. subst (λ (items : List Item). Follows items noSession t r t′) (sym (items-start book some)) f;
     }
 
-module _ {book t₀ : List ℕ} {at : ℕ} {s : Session} {t : List ℕ} (h : Reading book t₀ at s t) where
-  pub field-ready : at < length book → FieldReady book at s t
-  field-ready l = record { some = l; stands = h .stands }
+-- "book empty"
+pub read-empty : (book t : List ℕ) → length book ≡ 0 → BookRead book t (reply 12 0 noSession) t
+read-empty [] t e = record { followed = (12, inl (refl, refl), inl (λ z. omega arith, (refl, refl))) }
+read-empty (x ∷ book) t e = absurd (omega arith)
+
+module _ {book t₀ : List ℕ} {at : ℕ} {stage : Stage} {s : Session} {t : List ℕ} (h : Reading book t₀ at stage s t) where
+  pub field-ready : {size : ℕ} → at < length book → size ≡ lengthOf (drop at book) → FieldReady stage book at size s t
+  field-ready l e = record { some = l; gives = e; stands = h .stands }
 
   module _
-      (l : at < length book) {r : Reply} {t₁ : List ℕ} (led : Led (unlessFault (faultAt book at) at (saidIn book at)) s t r t₁)
+      (l : at < length book) {r : Reply} {t₁ : List ℕ}
+      (part : PartFollowed (Item.field at stage (drop at book) ∷ saidAt book at) s t r t₁)
     where
+      abbrev items-behind : List Item
+      items-behind = itemsAt book (stageBehind (rowOf (getD (drop at book) 0 0)) stage) (at + sizeOf (drop at book))
+
       whole :
-          (q : Reply) (t′ : List ℕ)
-          → Follows (unlessFault (faultAt book at) at (saidIn book at ++ itemsAt book false (at + 3 + lengthAt book at))) s t q t′
+          (q : Reply) (t′ : List ℕ) → Follows (Item.field at stage (drop at book) ∷ saidAt book at ++ items-behind) s t q t′
           → Follows (itemsOf book) noSession t₀ q t′
       whole q t′ f =
-          h .all q t′ (subst (λ (items : List Item). Follows items s t q t′) (sym (items-read book at l)) f)
+          h .all q t′ (subst (λ (items : List Item). Follows items s t q t′) (sym (items-field book stage at l)) f)
 
       pub book-refused : r .number ≢ 0 → BookRead book t₀ r t₁
       book-refused ne =
           record {
             followed =
-                whole r t₁
-                (field-stop at (saidIn book at) (itemsAt book false (at + 3 + lengthAt book at)) s t (faultAt book at) r t₁ ne
-                (led .follows));
+                whole r t₁ (follows-stop items-behind r t₁ ne (Item.field at stage (drop at book) ∷ saidAt book at) s t (part .follows));
           }
 
-      pub faultless-here : r .number ≡ 0 → Faultless book at
-      faultless-here z =
-          faultless book at l (no-fault at (saidIn book at) [] s t (faultAt book at) r t₁ z (led .follows))
+      right-here : r .number ≡ 0 → First (fieldRefusals stage (drop at book)) 0
+      right-here z = go (part .follows)
+        where
+          go : Follows (Item.field at stage (drop at book) ∷ saidAt book at) s t r t₁ → First (fieldRefusals stage (drop at book)) 0
+          go (k, first, inl (ne, e)) = absurd (ne (sym (ap (λ (x : Reply). x .number) (e .0)) ∙ z))
+          go (k, first, inr (e, _)) = subst (First (fieldRefusals stage (drop at book))) e first
 
-      pub reading-on : r .number ≡ 0 → length t₁ ≡ length t → Reading book t₀ (at + 3 + lengthAt book at) (r .session) t₁
-      reading-on z kept =
-          record {
-            within = faultless-here z .within;
-            size = kept ∙ h .size;
-            stands = λ _. led .stands z;
+      -- where the next field stands
+      pub next-within : r .number ≡ 0 → at + sizeOf (drop at book) ≤ length book
+      next-within z = ends-within book at stage (right-here z)
+
+      pub reading-on :
+          (next : ℕ) → next ≡ at + sizeOf (drop at book) → r .number ≡ 0 → length t₁ ≡ length t
+          → Reading book t₀ next Begun (r .session) t₁
+      reading-on next e z same =
+          rw e
+          (record {
+            within = next-within z;
+            kept = same ∙ h .kept;
+            stands = λ _. part .stands z;
             all = λ q t′ f.
                 whole q t′
-                (field-on at (saidIn book at) (itemsAt book false (at + 3 + lengthAt book at)) s t (faultAt book at) r q t₁ t′ z
-                (said-plain book at) (led .follows)
-                (subst
-                (λ (first : Bool). Follows (itemsAt book first (at + 3 + lengthAt book at)) (r .session) t₁ q t′)
-                (ne-eqb (at + 3 + lengthAt book at) 0 (λ e. omega arith)) f));
-          }
+                (follows-on items-behind r q t₁ t′ z (Item.field at stage (drop at book) ∷ saidAt book at) s t (part .follows)
+                (subst (λ (stage₁ : Stage). Follows (itemsAt book stage₁ (at + sizeOf (drop at book))) (r .session) t₁ q t′)
+                (sym (stage-behind stage (drop at book) (right-here z))) f));
+          })
 
-  pub book-read : length book ≢ 0 → length book ≤ at → BookRead book t₀ (replyOf 0 s) t
-  book-read some l =
+  pub book-read : length book ≤ at → BookRead book t₀ (accepted s) t
+  book-read l =
       let end : at ≡ length book = omega (arith, h .within) in
-      let not-first : eqb at 0 ≡ false = ne-eqb at 0 (λ e. some (sym end ∙ e)) in
       record {
         followed =
-            h .all (replyOf 0 s) t
-            (subst (λ (items : List Item). Follows items s t (replyOf 0 s) t)
-            (sym (ap (λ (first : Bool). itemsAt book first at) not-first ∙ ap (itemsAt book false) end ∙ items-end book false))
-            (refl, refl));
+            h .all (accepted s) t
+            (subst (λ (items : List Item). Follows items s t (accepted s) t)
+            (sym (ap (itemsAt book stage) end ∙ items-end book stage)) (refl, refl));
       }

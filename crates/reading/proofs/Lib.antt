@@ -1,4 +1,4 @@
-pub mod Tags
+pub mod Rows
+pub mod Refusing
 pub mod Following
-pub mod Faults
 pub mod Advance

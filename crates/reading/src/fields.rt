@@ -1,68 +1,60 @@
-// The head of a field, and what it may be.
-use promise::ANSWERS;
+// The head of a field, and whether it is refused.
+use crate::tags::Row;
+use crate::tags::allows;
+use crate::tags::stands;
 use promise::BAD_LENGTH;
-use promise::CLASS_COUNT;
 use promise::CUT_SHORT;
 use promise::MISPLACED_TAG;
+use promise::Stage;
 use promise::UNKNOWN_TAG;
 ghost use mathlib.Core.Path.{_≡_};
-ghost use mathlib.Core.Logic.{_≢_};
-ghost use Prim.Native.Nat.{_+_, _<_, _≤_};
-ghost use lib.ListN.{length};
-ghost use Rattle.promise.specs.Book.{tagOf, isMisplaced, allows, fieldFault, lengthAt};
+ghost use Prim.Native.Nat.{_<_};
+ghost use lib.ListN.{length, getD, drop};
+ghost use Rattle.order.specs.Refusals.{First};
+ghost use Rattle.promise.specs.Book.{lengthOf, fieldRefusals};
+ghost use Rattle.reading.specs.Parts.{HeadRead};
 
-// The length that a field gives, the high byte first.
-pub fn length_at(book: &[u8], at: usize) -> usize
-    requires { ⌜ at + 3 ≤ length (now book) ⌝ }
-    ensures { λ r. ⌜ (r ≡ lengthAt (now (book .entry)) at) × (r < 65536) ⌝ }
+// The byte at an index, 0 behind the end.
+fn byte_at(book: &[u8], i: usize) -> u8
+    ensures { λ r. ⌜ r ≡ getD (now (book .entry)) i 0 ⌝ }
 {
-    let high = book[at + 1] as usize;
-    let low = book[at + 2] as usize;
+    if i < book.len() {
+        return book[i];
+    }
+    0
+}
+
+// The length that the field at an index gives, the high byte first.
+pub fn length_at(book: &[u8], at: usize) -> usize
+    requires { ⌜ at < length (now book) ⌝ }
+    ensures { λ r. ⌜ (r ≡ lengthOf (drop at (now (book .entry)))) × (r < 65536) ⌝ }
+{
+    let high = byte_at(book, at + 1) as usize;
+    let low = byte_at(book, at + 2) as usize;
     high * 256 + low
 }
 
-// Whether a tag 1 comes again, or the first field has another tag.
-fn misplaced(first: bool, tag: u8) -> bool
-    ensures { λ r. ⌜ r ≡ isMisplaced first (tagOf tag) ⌝ }
+// The refusal that a field gives by its head, 0 for none.
+pub fn field_refusal(stage: Stage, book: &[u8], at: usize, row: Row, size: usize) -> u8
+    requires { ⌜ HeadRead (now book) at row size ⌝ }
+    ensures { λ r. ⌜ First (fieldRefusals stage (drop at (now (book .entry)))) r ⌝ }
 {
-    if first {
-        return tag != CLASS_COUNT;
+    let left = book.len() - at;
+    if left < 3 {
+        return CUT_SHORT;
     }
-    tag == CLASS_COUNT
-}
-
-// Whether a tag may have this length: 1 for the class count, whole answers of three bytes, whole told facts of two.
-fn allows(tag: u8, size: usize) -> bool
-    requires { ⌜ (tag ≢ 0) × (tag ≤ 4) ⌝ }
-    ensures { λ r. ⌜ r ≡ allows (tagOf tag) size ⌝ }
-{
-    if tag == CLASS_COUNT {
-        return size == 1;
-    }
-    if tag == ANSWERS {
-        return size % 3 == 0;
-    }
-    size % 2 == 0
-}
-
-// The refusal that the head of a field gives, 0 for none; room bytes come after it.
-pub fn field_fault(first: bool, tag: u8, size: usize, room: usize) -> u8
-    ensures { λ r. ⌜ r ≡ fieldFault first (tagOf tag) size room ⌝ }
-{
-    if tag == 0 {
+    if !row.known {
         return UNKNOWN_TAG;
     }
-    if ANSWERS < tag {
-        return UNKNOWN_TAG;
-    }
-    let elsewhere = misplaced(first, tag);
-    if elsewhere {
+    let placed = stands(row, stage);
+    if !placed {
         return MISPLACED_TAG;
     }
-    let allowed = allows(tag, size);
+    let allowed = allows(row, size);
     if !allowed {
         return BAD_LENGTH;
     }
+    let room = left - 3;
     if room < size {
         return CUT_SHORT;
     }

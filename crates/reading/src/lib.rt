@@ -1,67 +1,67 @@
 // The call read: any bytes of any length, on any table.
 mod facts;
 mod fields;
+mod tags;
 
 use facts::follow_facts;
 use facts::placed;
-use fields::field_fault;
+use fields::field_refusal;
 use fields::length_at;
-use promise::CLASS_COUNT;
-use promise::CUT_SHORT;
 use promise::MISPLACED_TAG;
 use promise::Reply;
 use promise::Session;
+use promise::Stage;
 use session::accepted;
 use session::fresh;
 use session::no_session;
 use session::stopped;
-ghost use mathlib.Core.Path.{_≡_};
-ghost use Prim.Native.Nat.{_<_};
-ghost use lib.ListN.{length};
-ghost use Rattle.promise.specs.Book.{unlessFault};
-ghost use Rattle.promise.specs.Read.{BookRead};
-ghost use Rattle.reading.specs.Parts.{faultAt, saidIn, Led, FieldReady};
+use tags::Row;
+use tags::row_of;
+ghost use mathlib.Core.List.{_∷_};
+ghost use lib.ListN.{drop};
+ghost use Rattle.promise.specs.Book.{Item, BookRead};
+ghost use Rattle.reading.specs.Parts.{saidAt, PartFollowed, FieldReady, FieldRight};
 
-// The refusal of the field whose tag byte stands at an index, 0 for none.
-fn fault_at(book: &[u8], at: usize) -> u8
-    requires { ⌜ at < length (now book) ⌝ }
-    ensures { λ r. ⌜ r ≡ faultAt (now (book .entry)) at ⌝ }
+// What a field says that is not refused is followed: a class count, or facts.
+fn follow_field(
+    book: &[u8],
+    at: usize,
+    row: Row,
+    size: usize,
+    session: Session,
+    table: &mut [u8],
+) -> Reply
+    requires { ⌜ FieldRight (now book) at row size session (now table) ⌝ }
+    ensures { λ r. ⌜ PartFollowed (saidAt (now (book .entry)) at) session (now (table .entry)) r (now (table .exit)) ⌝ }
 {
-    let left = book.len() - at;
-    if left < 3 {
-        return CUT_SHORT;
-    }
-    let size = length_at(book, at);
-    field_fault(at == 0, book[at], size, left - 3)
-}
-
-// What a field without a fault says is followed: a class count, or facts.
-fn follow_field(book: &[u8], at: usize, session: Session, table: &mut [u8]) -> Reply
-    requires { ⌜ (FieldReady (now book) at session (now table)) × (faultAt (now book) at ≡ 0) ⌝ }
-    ensures { λ r. ⌜ Led (saidIn (now (book .entry)) at) session (now (table .entry)) r (now (table .exit)) ⌝ }
-{
-    let tag = book[at];
     let start = at + 3;
-    if tag == CLASS_COUNT {
+    if row.begins {
         let classes = book[start] as usize;
         let reply = fresh(classes, table);
         return placed(reply, at);
     }
-    let end = start + length_at(book, at);
-    follow_facts(book, tag, start, end, session, table)
+    follow_facts(book, row, start, size, session, table)
 }
 
 // A field is read, or refused by its head.
-fn read_field(book: &[u8], at: usize, session: Session, table: &mut [u8]) -> Reply
-    requires { ⌜ FieldReady (now book) at session (now table) ⌝ }
-    ensures { λ r. ⌜ Led (unlessFault (faultAt (now (book .entry)) at) at (saidIn (now (book .entry)) at)) session
+fn read_field(
+    stage: Stage,
+    book: &[u8],
+    at: usize,
+    size: usize,
+    session: Session,
+    table: &mut [u8],
+) -> Reply
+    requires { ⌜ FieldReady stage (now book) at size session (now table) ⌝ }
+    ensures { λ r. ⌜ PartFollowed (Item.field at stage (drop at (now (book .entry))) ∷ saidAt (now (book .entry)) at) session
         (now (table .entry)) r (now (table .exit)) ⌝ }
 {
-    let number = fault_at(book, at);
+    let row = row_of(book[at]);
+    let number = field_refusal(stage, book, at, row, size);
     if number != 0 {
         return stopped(number, at, session);
     }
-    follow_field(book, at, session, table)
+    follow_field(book, at, row, size, session, table)
 }
 
 // Reads a book, field by field, on a fresh table. A refused book gives its number and place; session and table are those after the facts
@@ -73,14 +73,17 @@ pub fn read(book: &[u8], table: &mut [u8]) -> Reply
     if book.len() == 0 {
         return stopped(MISPLACED_TAG, 0, session);
     }
+    let mut stage = Stage::Start;
     let mut at: usize = 0;
     while at < book.len() {
-        let reply = read_field(book, at, session, &mut *table);
+        let size = length_at(book, at);
+        let reply = read_field(stage, book, at, size, session, &mut *table);
         if reply.number != 0 {
             return reply;
         }
         session = reply.session;
-        at = at + 3 + length_at(book, at);
+        stage = Stage::Begun;
+        at = at + 3 + size;
     }
     accepted(session)
 }

@@ -1,20 +1,19 @@
 -- `reading::read` meets its contract: the fields from here on follow all of them.
 -- Assumes nothing.
 use mathlib.Core.Path.{_∙_}
-use Prim.Native.Nat.{_-_}
+use Prim.Native.Nat.{_+_, _-_, _≤_}
 use native.Mathlib.Omega.{arith}
 use borrow.Author.Needs.{needs}
 use lib.ListN.{length}
-use Rattle.reading.proofs.Faults.{Faultless}
-use Rattle.reading.proofs.Advance.{Reading, reading, read-empty, field-ready, book-refused, faultless-here, reading-on, book-read}
+use Rattle.reading.proofs.Advance.{Reading, reading, read-empty, field-ready, book-refused, next-within, reading-on, book-read}
 use Rattle.reading.proofs.read.Statement.{statement}
 use Rattle.reading.proofs.read.Tie as tie
 
 abbrev Inv-loop : tie.InvT-loop
-Inv-loop book table₀ session₀ at₀ table session at = Reading book table₀ at session table
+Inv-loop book table₀ session₀ stage₀ at₀ table session stage at = Reading book table₀ at stage session table
 
 abbrev μ-loop : tie.MeasureT-loop
-μ-loop book table₀ session₀ at₀ table session at = length book - at
+μ-loop book table₀ session₀ stage₀ at₀ table session stage at = length book - at
 
 no-session-requires : tie.Need-no-session-requires Inv-loop μ-loop
 no-session-requires c κs = search needs
@@ -26,49 +25,67 @@ returns : tie.Need-returns Inv-loop μ-loop
 returns c = rw (c .stopped .ensures, c .before .before .no-session .ensures) (read-empty _ _ (c .before .if1 .taken))
 
 loop-holds : tie.Need-loop-holds Inv-loop μ-loop
-loop-holds c = rw (c .before .no-session .ensures) (reading _ _)
-
-read-field-requires : tie.Need-read-field-requires Inv-loop μ-loop
-read-field-requires c κs = field-ready (c .before .before .loop .inv) (c .before .loop-test .taken)
-
-same-length : tie.Need-same-length Inv-loop μ-loop
-same-length c = c .before .before .before .before .read-field .kept .1 .1 .1 .0 ∙ c .before .before .before .before .before .before .before .loop .inv .size
-
-returns-2 : tie.Need-returns-2 Inv-loop μ-loop
-returns-2 c = book-refused (c .before .before .before .before .before .before .before .loop .inv) (c .before .before .before .before .before .before .loop-test .taken) (c .before .before .before .before .read-field .ensures) (c .if2 .taken)
-
--- a field that was not refused has no fault
-faultless-read :
-    (c : tie.After-session Inv-loop μ-loop) → Faultless (c .before .before .before .before .before .before .before .before .before .before .before .before .before .args .book .now) (c .before .before .before .before .before .before .before .before .loop .at)
-faultless-read c =
-    faultless-here (c .before .before .before .before .before .before .before .before .loop .inv) (c .before .before .before .before .before .before .before .loop-test .taken) (c .before .before .before .before .before .read-field .ensures) (c .before .if2 .left)
-
-add-at : tie.Need-add-at Inv-loop μ-loop
-add-at c = omega (arith, faultless-read c .within)
+loop-holds c = rw (c .before .no-session .ensures) (reading _ _ (c .if1 .left))
 
 length-at-requires : tie.Need-length-at-requires Inv-loop μ-loop
-length-at-requires c κs = omega (arith, faultless-read c .within)
+length-at-requires c κs = c .loop-test .taken
+
+read-field-requires : tie.Need-read-field-requires Inv-loop μ-loop
+read-field-requires c κs =
+    let inside = c .before .before in field-ready (inside .before .loop .inv) (inside .loop-test .taken) (c .before .length-at .ensures .0)
+
+same-length : tie.Need-same-length Inv-loop μ-loop
+same-length c =
+    let called = c .before .before .before .before in
+    called .read-field .kept .1 .1 .1 .1 .1 .0 ∙ called .before .before .before .before .loop .inv .kept
+
+returns-2 : tie.Need-returns-2 Inv-loop μ-loop
+returns-2 c =
+    let called = c .before .before .before .before in
+    let inside = called .before .before .before in
+    book-refused (inside .before .loop .inv) (inside .loop-test .taken) (called .read-field .ensures) (c .if2 .taken)
+
+-- the next field stands within the book, or at its end
+next :
+    (c : tie.After-session Inv-loop μ-loop)
+    → let called = c .before .before .before .before .before in
+    let inside = called .before .before .before in
+    inside .before .loop .at + 3 + called .before .before .length-at .result
+    ≤ length (inside .before .before .before .before .before .before .args .book .now)
+next c =
+    let called = c .before .before .before .before .before in
+    let inside = called .before .before .before in
+    omega (
+      arith,
+      next-within (inside .before .loop .inv) (inside .loop-test .taken) (called .read-field .ensures) (c .before .if2 .left),
+      called .before .before .length-at .ensures .0,
+    )
+
+add-at : tie.Need-add-at Inv-loop μ-loop
+add-at c = omega (arith, next c)
 
 add-at-2 : tie.Need-add-at-2 Inv-loop μ-loop
-add-at-2 c = omega (arith, faultless-read (c .before) .within, c .length-at .ensures .0)
+add-at-2 c = omega (arith, next c)
 
 loop-less : tie.Need-loop-less Inv-loop μ-loop
-loop-less c = omega (arith, faultless-read (c .before) .within, c .length-at .ensures .0)
+loop-less c = omega (arith, next c)
 
 loop-again : tie.Need-loop-again Inv-loop μ-loop
 loop-again c =
-    rw (c .length-at .ensures .0)
-    (reading-on (c .before .before .before .before .before .before .before .before .before .loop .inv) (c .before .before .before .before .before .before .before .before .loop-test .taken) (c .before .before .before .before .before .before .read-field .ensures) (c .before .before .if2 .left)
-    (c .before .before .before .before .before .before .read-field .kept .1 .1 .1 .0))
+    let called = c .before .before .before .before .before in
+    let inside = called .before .before .before in
+    reading-on (inside .before .loop .inv) (inside .loop-test .taken) (called .read-field .ensures) _
+    (omega (arith, called .before .before .length-at .ensures .0)) (c .before .if2 .left)
+    (called .read-field .kept .1 .1 .1 .1 .1 .0)
 
 accepted-requires : tie.Need-accepted-requires Inv-loop μ-loop
 accepted-requires c κs = search needs
 
 same-length-2 : tie.Need-same-length-2 Inv-loop μ-loop
-same-length-2 c = c .before .before .loop .inv .size
+same-length-2 c = c .before .before .loop .inv .kept
 
 returns-3 : tie.Need-returns-3 Inv-loop μ-loop
-returns-3 c = rw (c .accepted .ensures) (book-read (c .before .before .loop .inv) (c .before .before .before .if1 .left) (c .before .loop-test .left))
+returns-3 c = rw (c .accepted .ensures) (book-read (c .before .before .loop .inv) (c .before .loop-test .left))
 
 pub read-spec : {M : Type 1} → statement M
 read-spec =
@@ -80,11 +97,11 @@ read-spec =
     stopped-requires
     returns
     loop-holds
+    length-at-requires
     read-field-requires
     same-length
     returns-2
     add-at
-    length-at-requires
     add-at-2
     loop-less
     loop-again

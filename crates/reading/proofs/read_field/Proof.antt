@@ -1,40 +1,75 @@
 -- `reading::read_field` meets its contract.
 -- Assumes nothing.
-use mathlib.Core.Path.{sym, _∙_}
-use Rattle.reading.specs.Parts.{saidIn}
-use Rattle.reading.proofs.Advance.{field-faulted}
+use mathlib.Core.Path.{subst}
+use Rattle.order.specs.Refusals.{First}
+use Rattle.promise.specs.Book.{fieldRefusals}
+use lib.ListN.{drop}
+use Rattle.reading.specs.Parts.{saidAt, HeadRead}
+use Rattle.reading.proofs.Refusing.{head-read}
+use Rattle.reading.proofs.Following.{field-refused, field-followed}
 use borrow.Author.Needs.{needs}
 use Rattle.reading.proofs.read_field.Statement.{statement}
 use Rattle.reading.proofs.read_field.Tie as tie
 
-fault-at-requires : tie.Need-fault-at-requires
-fault-at-requires c κs = search needs
+shared-slice-read-row-of : tie.Need-shared-slice-read-row-of
+shared-slice-read-row-of c = search needs
+
+row-of-requires : tie.Need-row-of-requires
+row-of-requires c κs = search needs
+
+-- the head is read
+head :
+    (c : tie.After-row-of)
+    → let a = c .before .before .before .before .args in HeadRead (a .book .now) (a .at) (c .row-of .result) (a .size)
+head c =
+    let p = c .before .before .before .before .pre in head-read (p .some) (p .gives) (c .row-of .ensures)
+
+field-refusal-requires : tie.Need-field-refusal-requires
+field-refusal-requires c κs = head c
 
 stopped-requires : tie.Need-stopped-requires
 stopped-requires c κs = search needs
 
 returns : tie.Need-returns
 returns c =
-    let a = c .before .before .before .before .before .args in
-    rw (c .stopped .ensures, ← c .before .before .fault-at .ensures)
-    (field-faulted (saidIn (a .book .now) (a .at)) (c .before .before .fault-at .result) (c .before .if1 .taken))
+    let judged = c .before .before in
+    let a = judged .before .before .before .before .before .args in
+    rw (c .stopped .ensures)
+    (field-refused (saidAt (a .book .now) (a .at)) (judged .field-refusal .ensures) (c .before .if1 .taken))
 
 follow-field-requires : tie.Need-follow-field-requires
-follow-field-requires c κs = search needs
+follow-field-requires c κs =
+    let tested = c .before in
+    let judged = tested .before in
+    let start = judged .before .before .before .before .before in
+    record {
+      head = head (judged .before);
+      stage = start .args .stage;
+      right =
+          subst (First (fieldRefusals (start .args .stage) (drop (start .args .at) (start .args .book .now)))) (tested .if1 .left)
+          (judged .field-refusal .ensures);
+      stands = start .pre .stands;
+    }
 
 same-length : tie.Need-same-length
 same-length c = search needs
 
 returns-2 : tie.Need-returns-2
 returns-2 c =
-    let tested = c .before .before .before .before in
-    rw (sym (tested .before .fault-at .ensures) ∙ tested .if1 .left) (c .before .before .follow-field .ensures)
+    let called = c .before .before in
+    let tested = called .before .before in
+    let judged = tested .before in
+    let a = judged .before .before .before .before .before .args in
+    field-followed (saidAt (a .book .now) (a .at)) (judged .field-refusal .ensures) (tested .if1 .left)
+    (called .follow-field .ensures)
 
 pub read-field-spec : {M : Type 1} → statement M
 read-field-spec =
     tie.close
     (tie.spec
-    fault-at-requires
+    shared-slice-read-row-of
+    row-of-requires
+    field-refusal-requires
     stopped-requires
     returns
     follow-field-requires

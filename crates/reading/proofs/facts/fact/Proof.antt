@@ -2,8 +2,8 @@
 -- Assumes nothing.
 use Prim.Native.Nat.{_+_}
 use native.Mathlib.Omega.{arith}
-use Rattle.reading.proofs.Tags.{width-most}
-use Rattle.reading.proofs.Following.{bad-verdict, fact-read}
+use Rattle.reading.proofs.Rows.{wide-most}
+use Rattle.reading.proofs.Following.{bad-verdict, fact-taken}
 use borrow.Author.Needs.{needs}
 use Rattle.reading.proofs.facts.fact.Statement.{statement}
 use Rattle.reading.proofs.facts.fact.Tie as tie
@@ -18,22 +18,22 @@ returns : tie.Need-returns
 returns c = rw (c .stopped .ensures) (bad-verdict (omega (arith, c .before .before .verdict .ensures)))
 
 add-second : tie.Need-add-second
-add-second c = let p = c .before .before .before .before .pre in omega (arith, p .within, width-most (c .before .before .before .before .args .tag) .0)
+add-second c = let p = c .before .before .before .before .pre in omega (arith, p .within, wide-most (c .before .before .before .before .args .row) (p .wide) .0)
 
 shared-slice-read-lower : tie.Need-shared-slice-read-lower
-shared-slice-read-lower c = let p = c .before .before .before .before .before .pre in omega (arith, p .within, width-most (c .before .before .before .before .before .args .tag) .0)
+shared-slice-read-lower c = let p = c .before .before .before .before .before .pre in omega (arith, p .within, wide-most (c .before .before .before .before .before .args .row) (p .wide) .0)
 
 cast-lower : tie.Need-cast-lower
 cast-lower c = omega (arith, c .shared-slice-known2 .given (c .before .before .before .before .before .args .at))
 
 shared-slice-read-upper : tie.Need-shared-slice-read-upper
-shared-slice-read-upper c = let p = c .before .before .before .before .before .before .pre in omega (arith, p .within, width-most (c .before .before .before .before .before .before .args .tag) .0)
+shared-slice-read-upper c = let p = c .before .before .before .before .before .before .pre in omega (arith, p .within, wide-most (c .before .before .before .before .before .before .args .row) (p .wide) .0)
 
 cast-upper : tie.Need-cast-upper
 cast-upper c = omega (arith, c .shared-slice-known3 .given (c .before .before .before .before .before .before .args .at + 1))
 
-take-standing-requires : tie.Need-take-standing-requires
-take-standing-requires c κs = search needs
+take-fact-requires : tie.Need-take-fact-requires
+take-fact-requires c κs = search needs
 
 placed-requires : tie.Need-placed-requires
 placed-requires c κs = search needs
@@ -46,7 +46,7 @@ returns-2 c =
     let tested = c .before .before .before .before .before .before .before in
     let start = tested .before .before .before .before in
     rw (← tested .before .verdict .ensures)
-    (fact-read (start .args .tag) (start .pre .stands) (tested .if1 .left) (c .before .before .before .take-standing .ensures) (c .placed .ensures))
+    (fact-taken (start .pre .stands) (tested .if1 .left) (c .before .before .before .take-fact .ensures) (c .placed .ensures))
 
 pub fact-spec : {M : Type 1} → statement M
 fact-spec =
@@ -60,7 +60,7 @@ fact-spec =
     cast-lower
     shared-slice-read-upper
     cast-upper
-    take-standing-requires
+    take-fact-requires
     placed-requires
     same-length
     returns-2)

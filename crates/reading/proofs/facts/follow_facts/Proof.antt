@@ -4,56 +4,62 @@ use mathlib.Core.Path.{_∙_}
 use Prim.Native.Nat.{_-_}
 use native.Mathlib.Omega.{arith}
 use borrow.Author.Needs.{needs}
-use Rattle.promise.specs.Book.{tagOf}
-use Rattle.reading.proofs.Tags.{width-most}
-use Rattle.reading.proofs.Advance.{Facing, facing, fits, one-ready, refused-here, facing-next, all-followed}
+use Rattle.reading.proofs.Advance.{Facing, facing, some-bytes, fits, one-ready, refused-here, facing-next, all-followed}
 use Rattle.reading.proofs.facts.follow_facts.Statement.{statement}
 use Rattle.reading.proofs.facts.follow_facts.Tie as tie
 
 abbrev Inv-loop : tie.InvT-loop
-Inv-loop book tag from to table₀ step at₀ current₀ table at current = Facing (tagOf tag) book from to current₀ table₀ at current table
+Inv-loop book row from size table₀ to at₀ current₀ table at current =
+    Facing row book from size current₀ table₀ at current table
 
 abbrev μ-loop : tie.MeasureT-loop
-μ-loop book tag from to table₀ step at₀ current₀ table at current = to - at
+μ-loop book row from size table₀ to at₀ current₀ table at current = to - at
 
-width-requires : tie.Need-width-requires Inv-loop μ-loop
-width-requires c κs = search needs
+add-to : tie.Need-add-to Inv-loop μ-loop
+add-to c = search needs
 
 loop-holds : tie.Need-loop-holds Inv-loop μ-loop
-loop-holds c = facing (c .before .before .before .pre)
+loop-holds c = let p = c .before .before .pre in facing (p .0) (p .1)
 
 fact-requires : tie.Need-fact-requires Inv-loop μ-loop
 fact-requires c κs = one-ready (c .before .before .loop .inv) (c .before .loop-test .taken)
 
 same-length : tie.Need-same-length Inv-loop μ-loop
-same-length c = c .before .before .before .before .fact .kept .1 .1 .1 .1 .0 ∙ c .before .before .before .before .before .before .before .loop .inv .size
+same-length c =
+    let called = c .before .before .before .before in
+    called .fact .kept .1 .1 .1 .1 .0 ∙ called .before .before .before .loop .inv .kept
 
 returns : tie.Need-returns Inv-loop μ-loop
-returns c = refused-here (c .before .before .before .before .before .before .before .loop .inv) (c .before .before .before .before .before .before .loop-test .taken) (c .before .before .before .before .fact .ensures) (c .if1 .taken)
+returns c =
+    let called = c .before .before .before .before in
+    let inside = called .before .before in
+    refused-here (inside .before .loop .inv) (inside .loop-test .taken) (called .fact .ensures) (c .if1 .taken)
 
 add-at : tie.Need-add-at Inv-loop μ-loop
-add-at c = omega (arith, fits (c .before .before .before .before .before .before .before .before .loop .inv) (c .before .before .before .before .before .before .before .loop-test .taken), c .before .before .before .before .before .before .before .before .before .width .ensures)
+add-at c =
+    let called = c .before .before .before .before .before .before in
+    let inside = called .before .before in
+    omega (arith, fits (inside .before .loop .inv) (inside .loop-test .taken))
 
 loop-less : tie.Need-loop-less Inv-loop μ-loop
 loop-less c =
-    omega (
-      arith,
-      fits (c .before .before .before .before .before .before .before .before .loop .inv) (c .before .before .before .before .before .before .before .loop-test .taken),
-      c .before .before .before .before .before .before .before .before .before .width .ensures,
-      width-most (c .before .before .before .before .before .before .before .before .before .before .before .before .args .tag) .0,
-    )
+    let called = c .before .before .before .before .before .before in
+    let inside = called .before .before in
+    let inv = inside .before .loop .inv in
+    omega (arith, fits inv (inside .loop-test .taken), some-bytes inv)
 
 loop-again : tie.Need-loop-again Inv-loop μ-loop
 loop-again c =
-    rw (c .before .before .before .before .before .before .before .before .before .width .ensures)
-    (facing-next (c .before .before .before .before .before .before .before .before .loop .inv) (c .before .before .before .before .before .before .before .loop-test .taken) (c .before .before .before .before .before .fact .ensures) (c .before .if1 .left)
-    (c .before .before .before .before .before .fact .kept .1 .1 .1 .1 .0))
+    let called = c .before .before .before .before .before .before in
+    let inside = called .before .before in
+    facing-next (inside .before .loop .inv) (inside .loop-test .taken) (called .fact .ensures) (c .before .before .if1 .left)
+    (called .fact .kept .1 .1 .1 .1 .0)
 
 accepted-requires : tie.Need-accepted-requires Inv-loop μ-loop
 accepted-requires c κs = search needs
 
 same-length-2 : tie.Need-same-length-2 Inv-loop μ-loop
-same-length-2 c = c .before .before .loop .inv .size
+same-length-2 c = c .before .before .loop .inv .kept
 
 returns-2 : tie.Need-returns-2 Inv-loop μ-loop
 returns-2 c = rw (c .accepted .ensures) (all-followed (c .before .before .loop .inv) (c .before .loop-test .left))
@@ -64,7 +70,7 @@ follow-facts-spec =
     (tie.spec
     Inv-loop
     μ-loop
-    width-requires
+    add-to
     loop-holds
     fact-requires
     same-length

@@ -1,54 +1,52 @@
 -- `reading::fields::length_at` meets its contract.
 -- Assumes nothing.
 use mathlib.Core.Path.{refl}
-use Prim.Native.Nat.{_+_}
-use native.Mathlib.Omega.{arith}
+use lib.Seq.{getD-drop}
 use borrow.Author.Needs.{needs}
 use Rattle.reading.proofs.fields.length_at.Statement.{statement}
 use Rattle.reading.proofs.fields.length_at.Tie as tie
 
-add-high : tie.Need-add-high
-add-high c = search needs
+add-byte-at : tie.Need-add-byte-at
+add-byte-at c = search needs
 
-shared-slice-read-high : tie.Need-shared-slice-read-high
-shared-slice-read-high c = search needs
+byte-at-requires : tie.Need-byte-at-requires
+byte-at-requires c κs = search needs
 
 cast-high : tie.Need-cast-high
-cast-high c = omega (arith, c .shared-slice-known .given (c .before .args .at + 1))
+cast-high c = search needs
 
-add-low : tie.Need-add-low
-add-low c = search needs
+add-byte-at-2 : tie.Need-add-byte-at-2
+add-byte-at-2 c = search needs
 
-shared-slice-read-low : tie.Need-shared-slice-read-low
-shared-slice-read-low c = search needs
+byte-at-requires-2 : tie.Need-byte-at-requires-2
+byte-at-requires-2 c κs = search needs
 
 cast-low : tie.Need-cast-low
-cast-low c = omega (arith, c .shared-slice-known2 .given (c .before .before .args .at + 2))
+cast-low c = search needs
 
 mul-result : tie.Need-mul-result
-mul-result c =
-    let at = c .before .before .args .at in
-    omega (arith, c .shared-slice-known2 .given (at + 1), c .shared-slice-known2 .given (at + 2))
+mul-result c = search needs
 
 add-result : tie.Need-add-result
-add-result c =
-    let at = c .before .before .args .at in
-    omega (arith, c .shared-slice-known2 .given (at + 1), c .shared-slice-known2 .given (at + 2))
+add-result c = search needs
 
 returns : tie.Need-returns
 returns c =
-    let at = c .before .before .args .at in
-    (refl, omega (arith, c .shared-slice-known2 .given (at + 1), c .shared-slice-known2 .given (at + 2)))
+    let a = c .before .before .before .args in (
+      rw (getD-drop (a .at) (a .book .now) 1 0, getD-drop (a .at) (a .book .now) 2 0, ← c .before .byte-at .ensures, ← c .byte-at2 .ensures)
+          refl,
+      search needs,
+    )
 
 pub length-at-spec : {M : Type 1} → statement M
 length-at-spec =
     tie.close
     (tie.spec
-    add-high
-    shared-slice-read-high
+    add-byte-at
+    byte-at-requires
     cast-high
-    add-low
-    shared-slice-read-low
+    add-byte-at-2
+    byte-at-requires-2
     cast-low
     mul-result
     add-result
