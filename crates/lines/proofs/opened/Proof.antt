@@ -20,7 +20,7 @@ returns c = pairs-counted _ _ (c .before .before .before .open-pairs .ensures) (
 returns-2 : tie.Need-returns-2
 returns-2 c =
     let asked = c .before .before in
-    absurd (pairs-never-refused _ _ (asked .before .before .before .pre) (asked .open-pairs .ensures) (c .enum-told .given .1))
+    absurd (pairs-never-refused _ _ (asked .before .before .pre) (asked .open-pairs .ensures) (c .enum-told .given .1))
 
 pub opened-spec : {M : Type 1} → statement M
 opened-spec = tie.close (tie.spec open-pairs-requires enum-known-counted enum-told returns returns-2)
