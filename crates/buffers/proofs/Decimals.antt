@@ -39,6 +39,9 @@ pub decimal-more : (x : ℕ) → 10 ≤ x → decimal x ≡ decimal (x / 10) ++ 
 unfolding decimal
 decimal-more x h = rw (digits-some x (x / 10) (omega arith) (omega arith))
 
+pub one-longer : (x : ℕ) → 10 ≤ x → length (decimal x) ≡ length (decimal (x / 10)) + 1
+one-longer x h = rw (decimal-more x h) (length-append (decimal (x / 10)) ((digit-0 + x % 10) ∷ []))
+
 -- the number that digits make, behind those that made v
 unfoldable pub valueFrom : ℕ → List ℕ → ℕ
 valueFrom v [] = v
