@@ -53,20 +53,12 @@ module _
 -- nothing was put
 pub put-none : {at : ℕ} {out : List ℕ} → at ≤ length out → Put [] at out at out
 put-none {at} {out} h =
-    record {
-      placed = record { bytes = sym (take-append-drop at out) };
-      ends = omega arith;
-      fits = h;
-    }
+    record { placed = record { bytes = sym (take-append-drop at out) }; ends = omega arith; fits = h }
 
 -- one byte was stored
 pub put-one : {at : ℕ} {out : List ℕ} (x : ℕ) → at < length out → Put (x ∷ []) at out (at + 1) (set out at x)
 put-one {at} {out} x h =
-    record {
-      placed = record { bytes = place-one x at out h };
-      ends = refl;
-      fits = omega arith;
-    }
+    record { placed = record { bytes = place-one x at out h }; ends = refl; fits = omega arith }
 
 -- the length stays
 pub put-length :

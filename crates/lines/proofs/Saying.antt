@@ -45,11 +45,7 @@ pub question-short :
     → length (decimal a) + length (decimal b) ≤ 6
 question-short s {a = a} {b = b} st p =
     let few = standing-passed [] st .0 .few in
-    omega (
-      arith,
-      byte-short a (omega (arith, p .lower-below)),
-      byte-short b (omega (arith, p .upper-below)),
-    )
+    omega (arith, byte-short a (omega (arith, p .lower-below)), byte-short b (omega (arith, p .upper-below)))
 
 -- where a pair is open next is not done
 pub never-done : {s : Session} {t : List ℕ} {q : Question} → 0 < opens (s .classes) t → Asked s t q → q ≡ Done → ⊥
@@ -120,7 +116,7 @@ ready-shape {r} ready accepted =
     let st = standing-passed [] (ready .stands accepted) .0 in
     record { few = st .few; room = st .room }
 
--- and its counts are short, for they are below 100,000
+-- and its counts are short: at most three digits for the classes, and five for each of the others
 pub counts-short :
     {r : Reply} {t heads steps text : List ℕ} {count : ℕ} → Reportable r t heads steps text → r .number ≡ 0
     → count ≡ opens (r .session .classes) t
