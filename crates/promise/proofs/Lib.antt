@@ -25,4 +25,3 @@ pub mod Mantel
 pub mod Triangles
 pub mod Table
 pub mod Worked
-pub mod WrongAnswers
