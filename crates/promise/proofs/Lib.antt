@@ -25,3 +25,4 @@ pub mod Mantel
 pub mod Triangles
 pub mod Table
 pub mod Worked
+pub mod WrongAnswers

@@ -53,7 +53,8 @@ infix 2 _gives_
 abbrev pub _gives_ : (i : Input) → Outcome i → Row
 i gives o = record { input = i; outcome = o }
 
--- What a call gives is written out here, by no definition of what it owes: a reply, the question and the count that C gets.
+-- What a call gives is written out, by no definition of what it owes: a reply, and the question and the count that C
+-- gets.
 abbrev pub replied : ℕ → ℕ → Session → Reply
 replied number place s = record { number = number; place = place; session = s }
 
@@ -147,6 +148,10 @@ p12 =
     1 ∷ 0 ∷ 1 ∷ 3 ∷ 2 ∷ 0 ∷ 8 ∷ 0 ∷ 1 ∷ 0 ∷ 2 ∷ 1 ∷ 2 ∷ 2 ∷ 1 ∷ 3
     ∷ 0 ∷ 4 ∷ 1 ∷ 0 ∷ 2 ∷ 0 ∷ []
 
+-- 01's printed example
+abbrev pub example : List ℕ
+example = 1 ∷ 0 ∷ 1 ∷ 3 ∷ 2 ∷ 0 ∷ 6 ∷ 0 ∷ 1 ∷ 1 ∷ 2 ∷ 2 ∷ 1 ∷ 4 ∷ 0 ∷ 3 ∷ 1 ∷ 0 ∷ 0 ∷ []
+
 -- a book read to nine bytes, and one that begins with three classes; no class count was accepted, and the bytes stay
 abbrev pub book : List ℕ → Input
 book bytes = Input.read bytes (nines 9)
@@ -156,10 +161,6 @@ bookOfThree bytes = book (1 ∷ 0 ∷ 1 ∷ 3 ∷ bytes)
 
 abbrev pub unbegun : ℕ → Reply × List ℕ
 unbegun number = (replied number 0 nothing, nines 9)
-
--- 01's printed example
-abbrev pub example : Input
-example = bookOfThree (2 ∷ 0 ∷ 6 ∷ 0 ∷ 1 ∷ 1 ∷ 2 ∷ 2 ∷ 1 ∷ 4 ∷ 0 ∷ 3 ∷ 1 ∷ 0 ∷ 0 ∷ [])
 
 -- the names of the rows; where one ends in -first, a later refusal is due as well
 pub data Mark : Type 0 where
@@ -285,7 +286,7 @@ row Mark.write-short = Input.write (three 0) p8 (nines 21) gives (Refused 8 0, n
 row Mark.write-one-class =
     Input.write (started 1) (1 ∷ []) (nines 11) gives (Count 10, 1 ∷ 0 ∷ 1 ∷ 1 ∷ 2 ∷ 0 ∷ 0 ∷ 3 ∷ 0 ∷ 0 ∷ 9 ∷ [])
 -- 01's printed example, whole and without its last six bytes
-row Mark.example-read = example gives (replied 0 0 (three 1), p8)
+row Mark.example-read = book example gives (replied 0 0 (three 1), p8)
 row Mark.example-cut-read = bookOfThree (2 ∷ 0 ∷ 6 ∷ 0 ∷ 1 ∷ 1 ∷ 2 ∷ 2 ∷ 1 ∷ []) gives (replied 0 0 (three 0), printed)
 row Mark.example-cut-open = Input.openPairs (three 0) printed gives Count 2
 row Mark.example-cut-asks = Input.next (three 0) printed gives Ask 1 0
