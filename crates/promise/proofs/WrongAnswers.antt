@@ -1,5 +1,5 @@
 -- Wrong programs do not meet what the calls owe: one that refuses everything, one with a constant answer, one that does
--- nothing, a tell that draws what follows from the first fact and merely stores later ones, a tally always 0 or made up.
+-- nothing, a tell that draws what follows from one fact and merely stores later ones, a tally always 0 or made up.
 -- Assumes nothing.
 use mathlib.Core.Path.{_≡_, refl, sym, _∙_, ap, ap₂, subst}
 use mathlib.Core.Logic.{_≢_, _⊎_, inl, ⊎-elim}
