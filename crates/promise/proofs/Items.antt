@@ -15,6 +15,11 @@ use Rattle.promise.specs.declared.Stage.the-variants.{Start}
 use Rattle.promise.specs.Tell.{Kind}
 use Rattle.promise.specs.Book.{rowOf, sizeOf, Item, factsFrom, fieldSays, stageBehind, itemsFrom, itemsOf}
 
+-- a field with these bytes, what it says, and later items
+abbrev fieldThen : Stage → ℕ → ℕ → List ℕ → List Item → List Item
+fieldThen stage at tag bytes later =
+    Item.field at stage (tag ∷ bytes) ∷ fieldSays (rowOf tag) at (tag ∷ bytes) ++ later
+
 -- as many fields as there are bytes are enough
 items-fuel :
     (k k₂ : ℕ) (stage : Stage) (at : ℕ) (bytes : List ℕ) → length bytes ≤ k → length bytes ≤ k₂
@@ -29,7 +34,7 @@ items-fuel (suc k) (suc k₂) stage at [] h h₂ = refl
 items-fuel (suc k) (suc k₂) stage at (tag ∷ bytes) h h₂ =
     let field = tag ∷ bytes in
     let l = length-drop (sizeOf field) field in
-    ap (λ (later : List Item). Item.field at stage field ∷ fieldSays (rowOf tag) at field ++ later)
+    ap (fieldThen stage at tag bytes)
     (items-fuel k k₂ (stageBehind (rowOf tag) stage) (at + sizeOf field) (drop (sizeOf field) field) (omega arith)
     (omega arith))
 
@@ -45,7 +50,7 @@ step zero stage at (tag ∷ bytes) some h = absurd (omega arith)
 step (suc k) stage at (tag ∷ bytes) some h =
     let field = tag ∷ bytes in
     let l = length-drop (sizeOf field) field in
-    ap (λ (later : List Item). Item.field at stage field ∷ fieldSays (rowOf tag) at field ++ later)
+    ap (fieldThen stage at tag bytes)
     (items-fuel k (suc k) (stageBehind (rowOf tag) stage) (at + sizeOf field) (drop (sizeOf field) field) (omega arith)
     (omega arith))
 

@@ -23,3 +23,6 @@ pub mod BookSays
 pub mod ReadBack
 pub mod Mantel
 pub mod Triangles
+pub mod Table
+pub mod Worked
+pub mod WrongAnswers
