@@ -15,6 +15,9 @@ Inv-loop script table₀ session₀ lent₀ at₀ table session lent at = (lent 
 abbrev μ-loop : tie.MeasureT-loop
 μ-loop script table₀ session₀ lent₀ at₀ table session lent at = length script - at
 
+session-of-requires : tie.Need-session-of-requires Inv-loop μ-loop
+session-of-requires c κs = search needs
+
 loop-holds : tie.Need-loop-holds Inv-loop μ-loop
 loop-holds c = search needs
 
@@ -74,6 +77,7 @@ run-spec =
     (tie.spec
     Inv-loop
     μ-loop
+    session-of-requires
     loop-holds
     line-end-requires
     sub-lend
