@@ -6,7 +6,7 @@ use mathlib.Core.List.{List, [], _∷_, _++_}
 use Prim.Native.Nat.{ℕ, _+_, _*_, _/_, _%_, _≤_, _<_}
 use native.Mathlib.Omega.{arith}
 use lib.ListN.{length}
-use Rattle.order.specs.Pairs.{Pair, bytesOf}
+use Rattle.order.specs.Tables.{Pair, bytesOf}
 use Rattle.order.specs.Refusals.{First}
 use Rattle.order.proofs.Pairs.{lists-unique, pairsOf, before-all, pairs-listed, length-bytes}
 use Rattle.order.proofs.Counting.{before-length}
@@ -15,7 +15,7 @@ use Rattle.promise.specs.declared.Counted.{Counted}
 use Rattle.promise.specs.declared.Counted.the-variants.{Count, Refused}
 use Rattle.promise.specs.Refusals.{standing}
 use Rattle.promise.specs.Calls.{Owed}
-use Rattle.promise.specs.Write.{field, PairsMarked, BookOf, writeRefusals, write}
+use Rattle.promise.specs.Book.{field, PairsMarked, BookOf, writeRefusals, write}
 use Rattle.promise.proofs.Standing.{Stands, standing-refused, first-stands, square}
 use Rattle.promise.proofs.Calls.{owed-refused, owed-done}
 use Rattle.promise.proofs.Write.{Off, off?}

@@ -3,13 +3,11 @@
 use mathlib.Core.List.{List, [], _∷_}
 use Prim.Native.Nat.{ℕ, _+_, _≤_}
 use lib.ListN.{length}
-use Rattle.order.specs.Pairs.{Pair, bytesOf}
+use Rattle.order.specs.Tables.{Pair, bytesOf}
 use Rattle.promise.specs.declared.Counted.{Counted}
 use Rattle.promise.specs.Refusals.{noRoom}
-use Rattle.promise.specs.Sessions.{started}
-use Rattle.promise.specs.Calls.{Call}
-use Rattle.promise.specs.Counts.{TooShort}
-use Rattle.promise.specs.Write.{field, PairsMarked, BookOf, write}
+use Rattle.promise.specs.Calls.{started, Call, TooShort}
+use Rattle.promise.specs.Book.{field, PairsMarked, BookOf, write}
 use Rattle.buffers.specs.Placed.{Put}
 use Rattle.buffers.specs.Noted.{Noted}
 use Rattle.marks.specs.Shape.{Shape}

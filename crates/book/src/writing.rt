@@ -16,7 +16,7 @@ ghost use mathlib.Core.List.{[], _∷_};
 ghost use Prim.Native.Nat.{_+_, _/_, _%_, _<_, _≤_};
 ghost use lib.ListN.{length};
 ghost use Rattle.promise.specs.Calls.{Owed};
-ghost use Rattle.promise.specs.Write.{write};
+ghost use Rattle.promise.specs.Book.{write};
 ghost use Rattle.buffers.specs.Placed.{Put};
 ghost use Rattle.marks.specs.Shape.{Shape};
 ghost use Rattle.book.specs.Fields.{PairsNoted, FieldFits, FieldPut, BookFits, BookPut, writeLeft};

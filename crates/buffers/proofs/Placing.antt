@@ -7,7 +7,7 @@ use Prim.Native.Nat.{ℕ, zero, suc, _+_, _≤_, _<_}
 use native.Mathlib.Omega.{arith}
 use lib.ListN.{length, set, length-append, take-append-drop}
 use Rattle.promise.proofs.Counts.{over-fits}
-use Rattle.promise.specs.Counts.{over}
+use Rattle.promise.specs.Calls.{over}
 use Rattle.buffers.specs.Placed.{place, Placed, Put}
 
 -- at the front of a buffer it is what is written over it

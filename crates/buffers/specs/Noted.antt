@@ -4,7 +4,7 @@ use mathlib.Core.Path.{_≡_}
 use mathlib.Core.List.{List, [], _∷_}
 use Prim.Native.Nat.{ℕ, _+_, _≤_, _<_}
 use lib.ListN.{length}
-use Rattle.order.specs.Pairs.{Pair, bytesOf}
+use Rattle.order.specs.Tables.{Pair, bytesOf}
 use Rattle.buffers.specs.Placed.{Placed}
 
 -- the pair stands at index at, if there is room for it; if not, no byte is changed

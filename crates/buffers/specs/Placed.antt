@@ -4,7 +4,7 @@ use mathlib.Core.Path.{_≡_}
 use mathlib.Core.List.{List, _++_}
 use Prim.Native.Nat.{ℕ, _+_, _≤_}
 use lib.ListN.{length, take, drop}
-use Rattle.promise.specs.Counts.{over}
+use Rattle.promise.specs.Calls.{over}
 
 -- the buffer out with the bytes w from index at on; at index 0 that is `over w out`
 abbrev pub place : List ℕ → ℕ → List ℕ → List ℕ

@@ -8,8 +8,7 @@ use Prim.Native.Nat.{ℕ, _<_}
 use native.Mathlib.Omega.{arith}
 use Rattle.order.specs.Tables.{mark, Settles, SomeContradicts}
 use Rattle.promise.specs.declared.Session.{Session}
-use Rattle.promise.specs.Sessions.{refusal, accepted}
-use Rattle.promise.specs.Calls.{Owed}
+use Rattle.promise.specs.Calls.{refusal, accepted, Owed}
 use Rattle.promise.specs.Clips.{Flagged, ClipNo, MemberBeyond, clipRefusals, clip}
 use Rattle.promise.proofs.Standing.{Stands, first-stands}
 use Rattle.promise.proofs.Calls.{owed-refused, owed-done}

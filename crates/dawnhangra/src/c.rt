@@ -7,14 +7,12 @@ use promise::Reply;
 use promise::Session;
 ghost use mathlib.Core.Path.{_≡_};
 ghost use Rattle.order.specs.Facts.{factOn};
-ghost use Rattle.promise.specs.Calls.{Owed};
+ghost use Rattle.promise.specs.Calls.{Owed, countFor, countForC, writesForC, openPairs};
 ghost use Rattle.promise.specs.Tell.{Kind, fresh, tell};
 ghost use Rattle.promise.specs.Clips.{clipBytes};
 ghost use Rattle.promise.specs.Next.{questionFor, nextForC};
-ghost use Rattle.promise.specs.Counts.{countFor, countForC, writesForC, openPairs};
 ghost use Rattle.promise.specs.Hierarchy.{hierarchy, ladder};
-ghost use Rattle.promise.specs.Book.{BookRead};
-ghost use Rattle.promise.specs.Write.{write};
+ghost use Rattle.promise.specs.Book.{BookRead, write};
 
 // A question as C gets it.
 fn crossed_question(question: Question) -> CrossedQuestion

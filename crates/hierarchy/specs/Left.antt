@@ -4,10 +4,8 @@ use mathlib.Core.Logic.{_⊎_}
 use mathlib.Core.List.{List, [], _∷_}
 use Prim.Native.Nat.{ℕ, _<_}
 use Rattle.promise.specs.declared.Counted.{Counted}
-use Rattle.promise.specs.Sessions.{started}
+use Rattle.promise.specs.Calls.{started, Call, TooShort}
 use Rattle.promise.specs.Refusals.{noRoom}
-use Rattle.promise.specs.Calls.{Call}
-use Rattle.promise.specs.Counts.{TooShort}
 use Rattle.promise.specs.Hierarchy.{Under, HeadsOf, StepBytes, hierarchy, LadderOf, ladder}
 use Rattle.standing.specs.Left.{left}
 use Rattle.steps.specs.HeadsFound.{SoundTable}

@@ -7,7 +7,7 @@ use native.Mathlib.Numerals.{add-one}
 use native.Mathlib.Omega.{arith}
 use lib.ListN.{length, getD, take, length-append}
 use lib.Seq.{take-suc, take-all, length-take-le}
-use Rattle.order.specs.Pairs.{Pair, bytesOf}
+use Rattle.order.specs.Tables.{Pair, bytesOf}
 use Rattle.buffers.specs.Placed.{Put}
 use Rattle.buffers.specs.Decimal.{decimal}
 use Rattle.buffers.proofs.Placing.{put-none, put-then}

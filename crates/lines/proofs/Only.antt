@@ -4,8 +4,7 @@ use mathlib.Core.Path.{_≡_, sym, _∙_, ap₂, subst}
 use mathlib.Core.List.{List, _++_}
 use Prim.Native.Nat.{ℕ}
 use native.Mathlib.Decide.{ℕ-discrete}
-use Rattle.order.specs.Tables.{opens}
-use Rattle.order.specs.Pairs.{Pair}
+use Rattle.order.specs.Tables.{opens, Pair}
 use Rattle.order.proofs.Counts.{opens-none}
 use Rattle.order.proofs.Pairs.{lists-unique}
 use Rattle.promise.specs.declared.Reply.{Reply}

@@ -8,8 +8,7 @@ use native.Mathlib.Omega.{arith}
 use native.Mathlib.Nat.{mul-le-mul}
 use lib.ListN.{length, take}
 use lib.Seq.{take-at}
-use Rattle.order.specs.Tables.{opens}
-use Rattle.order.specs.Pairs.{Pair, bytesOf}
+use Rattle.order.specs.Tables.{opens, Pair, bytesOf}
 use Rattle.order.specs.Refusals.{First}
 use Rattle.promise.specs.declared.Session.{Session}
 use Rattle.promise.specs.declared.Reply.{Reply}
@@ -18,8 +17,7 @@ use Rattle.promise.specs.declared.Question.the-variants.{Ask, Done, Refused}
 use Rattle.promise.specs.declared.Counted.{Counted}
 use Rattle.promise.specs.declared.Counted.the-variants.{Count}
 use Rattle.promise.specs.Refusals.{standing}
-use Rattle.promise.specs.Counts.{openPairs, over}
-use Rattle.promise.specs.Calls.{Owed}
+use Rattle.promise.specs.Calls.{openPairs, over, Owed}
 use Rattle.promise.specs.Next.{FirstOpen, next}
 use Rattle.promise.specs.Hierarchy.{HeadsOf, StepsOf, hierarchyRefusals, hierarchy}
 use Rattle.promise.proofs.Standing.{Stands, standing-passed, stands-first, square}

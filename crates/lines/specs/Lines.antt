@@ -5,8 +5,7 @@ use mathlib.Core.Logic.{_≢_}
 use mathlib.Core.List.{List, [], _∷_, _++_}
 use Prim.Native.Nat.{ℕ, suc, _*_}
 use lib.ListN.{take}
-use Rattle.order.specs.Tables.{opens}
-use Rattle.order.specs.Pairs.{Pair}
+use Rattle.order.specs.Tables.{opens, Pair}
 use Rattle.promise.specs.declared.Session.{Session}
 use Rattle.promise.specs.declared.Reply.{Reply}
 use Rattle.promise.specs.Next.{FirstOpen}

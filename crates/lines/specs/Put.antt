@@ -4,8 +4,7 @@ use mathlib.Core.Path.{_≡_}
 use mathlib.Core.List.{List, [], _∷_, _++_}
 use Prim.Native.Nat.{ℕ, zero, suc, _+_, _*_, _≤_}
 use lib.ListN.{length, getD}
-use Rattle.order.specs.Tables.{opens}
-use Rattle.order.specs.Pairs.{Pair}
+use Rattle.order.specs.Tables.{opens, Pair}
 use Rattle.order.specs.Refusals.{First}
 use Rattle.promise.specs.declared.Session.{Session}
 use Rattle.promise.specs.declared.Reply.{Reply}

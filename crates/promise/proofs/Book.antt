@@ -52,14 +52,14 @@ pub record SaidAt (book : List ℕ) (p : ℕ) (kind : Kind) (a b v : ℕ) : Type
 -- places rise, from at on; a class count stands where its field does
 abbrev pub PlacesRise : ℕ → List Item → Type 0
 PlacesRise at [] = Unit {0}
-PlacesRise at (Item.field p stage bytes ∷ items) = (at ≤ p) × PlacesRise p items
+PlacesRise at (Item.head p stage bytes ∷ items) = (at ≤ p) × PlacesRise p items
 PlacesRise at (Item.begin p n ∷ items) = (at ≤ p) × PlacesRise (suc p) items
 PlacesRise at (Item.said p kind a b v ∷ items) = (at ≤ p) × PlacesRise (suc p) items
 
 -- fields behind the first, and their facts; of a field that is refused nothing more is said
 abbrev pub Later : List ℕ → List Item → Type 0
 Later book [] = Unit {0}
-Later book (Item.field p stage bytes ∷ items) =
+Later book (Item.head p stage bytes ∷ items) =
     (stage ≡ Begun) × (bytes ≡ drop p book) × FieldAt book p Begun × (First (fieldRefusals stage bytes) 0 → Later book items)
 Later book (Item.begin p n ∷ items) = ⊥
 Later book (Item.said p kind a b v ∷ items) = SaidAt book p kind a b v × Later book items
@@ -67,21 +67,21 @@ Later book (Item.said p kind a b v ∷ items) = SaidAt book p kind a b v × Late
 -- the class count, and then the fields behind the first
 abbrev pub Counted : List ℕ → List Item → Type 0
 Counted book [] = ⊥
-Counted book (Item.field p stage bytes ∷ items) = ⊥
+Counted book (Item.head p stage bytes ∷ items) = ⊥
 Counted book (Item.begin p n ∷ items) = (p ≡ 0) × (n ≡ getD book 3 0) × PlacesRise 1 items × Later book items
 Counted book (Item.said p kind a b v ∷ items) = ⊥
 
 -- the first field, and where it is not refused, what it says and what stands behind it
 abbrev pub Whole : List ℕ → List Item → Type 0
 Whole book [] = ⊥
-Whole book (Item.field p stage bytes ∷ items) =
+Whole book (Item.head p stage bytes ∷ items) =
     (p ≡ 0) × (stage ≡ Start) × (bytes ≡ book) × (First (fieldRefusals stage bytes) 0 → Counted book items)
 Whole book (Item.begin p n ∷ items) = ⊥
 Whole book (Item.said p kind a b v ∷ items) = ⊥
 
 rise-from : (at e : ℕ) (items : List Item) → at ≤ e → PlacesRise e items → PlacesRise at items
 rise-from at e [] h l = tt
-rise-from at e (Item.field p stage bytes ∷ items) h l = (omega (arith, l .0), l .1)
+rise-from at e (Item.head p stage bytes ∷ items) h l = (omega (arith, l .0), l .1)
 rise-from at e (Item.begin p n ∷ items) h l = (omega (arith, l .0), l .1)
 rise-from at e (Item.said p kind a b v ∷ items) h l = (omega (arith, l .0), l .1)
 

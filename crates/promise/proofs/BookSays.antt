@@ -14,8 +14,7 @@ use lib.Dec.{eqb}
 use lib.ListN.{length, drop, length-append}
 use lib.Seq.{drop-at}
 use Rattle.order.specs.Facts.{Fact, factOn, under, notUnder}
-use Rattle.order.specs.Tables.{mark, Sound, Marks, SameMarks, markFor}
-use Rattle.order.specs.Pairs.{Pair, bytesOf}
+use Rattle.order.specs.Tables.{mark, Sound, Marks, SameMarks, markFor, Pair, bytesOf}
 use Rattle.order.specs.Refusals.{First}
 use Rattle.order.proofs.Tables.{which, verdict-of}
 use Rattle.order.proofs.Pairs.{lists-map, length-bytes}
@@ -25,8 +24,7 @@ use Rattle.promise.specs.declared.Stage.the-variants.{Start, Begun}
 use Rattle.promise.specs.Tell.{Kind}
 use Rattle.promise.specs.Clips.{truthOf}
 use Rattle.promise.specs.Runs.{Accepted}
-use Rattle.promise.specs.Book.{TagRow, countRow, factsRow, Lookup, rowOf, lengthOf, sizeOf, fieldRefusals, Item, factsFrom, fieldSays, itemsFrom, itemsOf, factOf}
-use Rattle.promise.specs.Write.{field, PairsMarked, BookOf}
+use Rattle.promise.specs.Book.{TagRow, countRow, factsRow, Lookup, rowOf, lengthOf, sizeOf, fieldRefusals, Item, factsFrom, fieldSays, itemsFrom, itemsOf, factOf, field, PairsMarked, BookOf}
 use Rattle.promise.proofs.Read.{callsSaid}
 use Rattle.promise.proofs.Write.{book-unique}
 
@@ -56,7 +54,7 @@ module _ (stage : Stage) (tag : ℕ) (row : TagRow) (known : rowOf tag ≡ Looku
   field-items :
       (fuel at : ℕ) (bytes rest : List ℕ)
       → itemsFrom (suc fuel) stage at (field tag bytes ++ rest)
-      ≡ Item.field at stage (field tag bytes ++ rest) ∷ fieldSays (Lookup.row row) at (field tag bytes ++ rest)
+      ≡ Item.head at stage (field tag bytes ++ rest) ∷ fieldSays (Lookup.row row) at (field tag bytes ++ rest)
       ++ itemsFrom fuel (row .behind) (at + (3 + length bytes)) rest
   unfolding itemsFrom
   field-items fuel at bytes rest =
@@ -98,8 +96,8 @@ secondAt ys = 4 + (3 + length (bytesOf ys))
 -- what the book of these pairs comes to behind its class count
 abbrev pub pairItems : List Pair → List Pair → List Item
 pairItems ys zs =
-    Item.field 4 Begun (pairFields ys zs) ∷ tellsOf 1 (4 + 3) ys
-    ++ Item.field (secondAt ys) Begun (field 3 (bytesOf zs)) ∷ tellsOf 0 (secondAt ys + 3) zs
+    Item.head 4 Begun (pairFields ys zs) ∷ tellsOf 1 (4 + 3) ys
+    ++ Item.head (secondAt ys) Begun (field 3 (bytesOf zs)) ∷ tellsOf 0 (secondAt ys + 3) zs
 
 known-count : rowOf 1 ≡ Lookup.row (countRow 1)
 unfolding rowOf
@@ -119,11 +117,11 @@ even l = eq-eqb (length (bytesOf l) % 2) 0 (rw (length-bytes l) (mul-mod-right 2
 
 pub book-items :
     {n : ℕ} {t book : List ℕ} (h : BookOf n t book)
-    → itemsOf book ≡ Item.field 0 Start book ∷ Item.begin 0 n ∷ pairItems (h .yes-pairs) (h .no-pairs)
+    → itemsOf book ≡ Item.head 0 Start book ∷ Item.begin 0 n ∷ pairItems (h .yes-pairs) (h .no-pairs)
 unfolding itemsFrom
 book-items {n} h =
     ap itemsOf (h .bytes) ∙ said
-    ∙ ap (λ (l : List ℕ). Item.field 0 Start l ∷ Item.begin 0 n ∷ pairItems ys zs) (sym (h .bytes))
+    ∙ ap (λ (l : List ℕ). Item.head 0 Start l ∷ Item.begin 0 n ∷ pairItems ys zs) (sym (h .bytes))
   where
     ys : List Pair
     ys = h .yes-pairs
@@ -134,26 +132,26 @@ book-items {n} h =
     last :
         (fuel at : ℕ)
         → itemsFrom (suc (suc fuel)) Begun at (field 3 (bytesOf zs))
-        ≡ Item.field at Begun (field 3 (bytesOf zs)) ∷ tellsOf 0 (at + 3) zs
+        ≡ Item.head at Begun (field 3 (bytesOf zs)) ∷ tellsOf 0 (at + 3) zs
     last fuel at =
         let whole = append-nil (field 3 (bytesOf zs)) in
         ap (itemsFrom (suc (suc fuel)) Begun at) (sym whole)
         ∙ field-items Begun 3 (factsRow 3 2 Kind.told (λ bytes. 0)) known-no refl (suc fuel) at (bytesOf zs) []
-        ∙ ap₂ (λ (l : List ℕ) (items : List Item). Item.field at Begun l ∷ items) whole
+        ∙ ap₂ (λ (l : List ℕ) (items : List Item). Item.head at Begun l ∷ items) whole
         (append-nil (fieldSays (Lookup.row (factsRow 3 2 Kind.told (λ bytes. 0))) at (field 3 (bytesOf zs) ++ []))
         ∙ pairs-said 3 0 at zs [])
 
     said :
         itemsOf (field 1 (n ∷ []) ++ pairFields ys zs)
-        ≡ Item.field 0 Start (field 1 (n ∷ []) ++ pairFields ys zs) ∷ Item.begin 0 n ∷ pairItems ys zs
+        ≡ Item.head 0 Start (field 1 (n ∷ []) ++ pairFields ys zs) ∷ Item.begin 0 n ∷ pairItems ys zs
     said =
         let L = length (bytesOf ys ++ field 3 (bytesOf zs)) in
         field-items Start 1 (countRow 1) known-count refl (suc (suc (suc (suc (suc (suc L)))))) 0 (n ∷ []) (pairFields ys zs)
         ∙ ap
-        (λ (items : List Item). Item.field 0 Start (field 1 (n ∷ []) ++ pairFields ys zs) ∷ Item.begin 0 n ∷ items)
+        (λ (items : List Item). Item.head 0 Start (field 1 (n ∷ []) ++ pairFields ys zs) ∷ Item.begin 0 n ∷ items)
         (field-items Begun 2 (factsRow 2 2 Kind.told (λ bytes. 1)) known-yes refl (suc (suc (suc (suc (suc L))))) 4 (bytesOf ys)
         (field 3 (bytesOf zs))
-        ∙ ap₂ (λ (told items : List Item). Item.field 4 Begun (pairFields ys zs) ∷ told ++ items)
+        ∙ ap₂ (λ (told items : List Item). Item.head 4 Begun (pairFields ys zs) ∷ told ++ items)
         (pairs-said 2 1 4 ys (field 3 (bytesOf zs))) (last (suc (suc (suc L))) (secondAt ys)))
 
 -- none of its fields is refused
@@ -174,14 +172,14 @@ fields-fine {n} h = (
 -- the facts that items say
 abbrev pub factsSaid : List Item → List Fact
 factsSaid [] = []
-factsSaid (Item.field p stage bytes ∷ items) = factsSaid items
+factsSaid (Item.head p stage bytes ∷ items) = factsSaid items
 factsSaid (Item.begin p n ∷ items) = factsSaid items
 factsSaid (Item.said p kind a b v ∷ items) = factOf a b v ∷ factsSaid items
 
 -- they are the facts accepted where all that they say is
 pub said-accepted : (n : ℕ) (items : List Item) (f : Fact) → Accepted n (callsSaid items) f ↔ List·Memᴰ f (factsSaid items)
 said-accepted n [] f = (λ i. absurd i, λ i. absurd (List·Memᴰ·not-nil i))
-said-accepted n (Item.field p stage bytes ∷ items) f = said-accepted n items f
+said-accepted n (Item.head p stage bytes ∷ items) f = said-accepted n items f
 said-accepted n (Item.begin p m ∷ items) f = said-accepted n items f
 said-accepted n (Item.said p kind a b v ∷ items) f =
     let later = said-accepted n items f in (λ i. there later i, λ i. back later (List·Memᴰ·cases-cons i))
@@ -202,7 +200,7 @@ said-accepted n (Item.said p kind a b v ∷ items) f =
 
 said-append : (xs ys : List Item) → factsSaid (xs ++ ys) ≡ factsSaid xs ++ factsSaid ys
 said-append [] ys = refl
-said-append (Item.field p stage bytes ∷ xs) ys = said-append xs ys
+said-append (Item.head p stage bytes ∷ xs) ys = said-append xs ys
 said-append (Item.begin p n ∷ xs) ys = said-append xs ys
 said-append (Item.said p kind a b v ∷ xs) ys = ap (λ (l : List Fact). factOf a b v ∷ l) (said-append xs ys)
 
@@ -251,7 +249,7 @@ book-says {n} {t} {book} h f = (
     said : factsSaid (itemsOf book) ≡ factsSaid yes-items ++ factsSaid no-items
     said =
         ap factsSaid (book-items h)
-        ∙ said-append yes-items (Item.field (secondAt (h .yes-pairs)) Begun (field 3 (bytesOf (h .no-pairs))) ∷ no-items)
+        ∙ said-append yes-items (Item.head (secondAt (h .yes-pairs)) Begun (field 3 (bytesOf (h .no-pairs))) ∷ no-items)
 
     marked :
         (v : ℕ) {l : List Pair} → PairsMarked n t (markFor (truthOf v)) l

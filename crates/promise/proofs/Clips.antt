@@ -25,11 +25,9 @@ use Rattle.order.proofs.Taking.{choose, chosen, laid, mark-laid, length-laid}
 use Rattle.promise.specs.declared.Session.{Session}
 use Rattle.promise.specs.declared.Reply.{Reply}
 use Rattle.promise.specs.Refusals.{standing}
-use Rattle.promise.specs.Sessions.{refusal, accepted}
-use Rattle.promise.specs.Calls.{Owed}
+use Rattle.promise.specs.Calls.{refusal, accepted, Owed, over}
 use Rattle.promise.specs.Clips.{Flagged, flagsOf, ClipNo, MemberBeyond, clipRefusals, clip, FlagsFit, bytesRefusals, clipBytes}
 use Rattle.promise.specs.Runs.{StandsFor}
-use Rattle.promise.specs.Counts.{over}
 use Rattle.promise.proofs.Flags.{flagged?, flag-there}
 use Rattle.promise.proofs.Standing.{Stands, standing-passed, stood, stands-first, standing-refused, standing-map, first-stands, standing-there}
 use Rattle.promise.proofs.Taking.{Leaves, stands-of, leaves-keeps}

@@ -13,8 +13,7 @@ use Rattle.order.specs.Refusals.{Condition, First}
 use Rattle.promise.specs.declared.Session.{Session}
 use Rattle.promise.specs.declared.Counted.{Counted}
 use Rattle.promise.specs.declared.Counted.the-variants.{Count}
-use Rattle.promise.specs.Calls.{Owed}
-use Rattle.promise.specs.Counts.{countNumber, openPairs, over, TooShort, writes}
+use Rattle.promise.specs.Calls.{Owed, countNumber, openPairs, over, TooShort, writes}
 use Rattle.promise.proofs.Standing.{standing-there}
 use Rattle.promise.proofs.Calls.{Fixed, owed-unique, owed-there}
 

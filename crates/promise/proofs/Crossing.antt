@@ -10,9 +10,8 @@ use Rattle.promise.specs.declared.Counted.{Counted}
 use Rattle.promise.specs.declared.Counted.the-variants.{Count}
 use Rattle.promise.specs.declared.CrossedQuestion.{CrossedQuestion}
 use Rattle.promise.specs.declared.CrossedCount.{CrossedCount}
-use Rattle.promise.specs.Calls.{Call, Owed}
+use Rattle.promise.specs.Calls.{Call, Owed, countNumber, openPairs, countFor, countForC, writesForC}
 use Rattle.promise.specs.Next.{questionNumber, next, questionFor, nextForC}
-use Rattle.promise.specs.Counts.{countNumber, openPairs, countFor, countForC, writesForC}
 use Rattle.promise.proofs.Calls.{Fixed, crossing-owed, crossing-there, crossing-unique}
 use Rattle.promise.proofs.Next.{next-fixed, next-there}
 use Rattle.promise.proofs.Counts.{open-pairs-fixed, open-pairs-there}

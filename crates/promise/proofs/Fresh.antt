@@ -17,11 +17,9 @@ use Rattle.order.proofs.Bytes.{front-mark, front-rest}
 use Rattle.order.proofs.Counts.{opens-diagonal}
 use Rattle.order.proofs.Taking.{fresh-list, fresh-made, fresh-mark, length-laid}
 use Rattle.promise.specs.declared.Reply.{Reply}
-use Rattle.promise.specs.Sessions.{noSession, started}
-use Rattle.promise.specs.Calls.{Owed}
+use Rattle.promise.specs.Calls.{noSession, started, Owed, over}
 use Rattle.promise.specs.Tell.{freshRefusals, fresh}
 use Rattle.promise.specs.Runs.{StandsFor}
-use Rattle.promise.specs.Counts.{over}
 use Rattle.promise.proofs.Standing.{first-stands}
 use Rattle.promise.proofs.Calls.{changes-unique, changes-session, changes-there}
 

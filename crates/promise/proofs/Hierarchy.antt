@@ -10,8 +10,7 @@ use native.Mathlib.Decide.{ℕ-discrete, decLt, decLe}
 use native.Mathlib.Omega.{arith}
 use lib.ListN.{length, getD}
 use lib.Seq.{ext-getD}
-use Rattle.order.specs.Tables.{mark, Sound, opens}
-use Rattle.order.specs.Pairs.{Pair, bytesOf}
+use Rattle.order.specs.Tables.{mark, Sound, opens, Pair, bytesOf}
 use Rattle.order.specs.Refusals.{First}
 use Rattle.order.proofs.Decide.{both, either, implies, negated, as-well, all-below, least}
 use Rattle.order.proofs.Refusals.{stage}
@@ -19,8 +18,7 @@ use Rattle.order.proofs.Pairs.{lists-unique, pairsOf, pairs-listed}
 use Rattle.promise.specs.declared.Session.{Session}
 use Rattle.promise.specs.declared.Counted.{Counted}
 use Rattle.promise.specs.declared.Counted.the-variants.{Count}
-use Rattle.promise.specs.Calls.{Owed}
-use Rattle.promise.specs.Counts.{countNumber, over, TooShort}
+use Rattle.promise.specs.Calls.{Owed, countNumber, over, TooShort}
 use Rattle.promise.specs.Hierarchy.{Under, Equal, HeadOf, Head, Third, Direct, HeadsOf, StepsOf, StepBytes, hierarchyRefusals, hierarchy}
 use Rattle.promise.proofs.Standing.{Stands, standing-passed, stands-first, standing-there}
 use Rattle.promise.proofs.Calls.{Fixed, owed-unique, owed-there}

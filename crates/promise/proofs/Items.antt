@@ -18,7 +18,7 @@ use Rattle.promise.specs.Book.{rowOf, sizeOf, Item, factsFrom, fieldSays
 -- a field with these bytes, what it says, and later items
 abbrev fieldThen : Stage → ℕ → ℕ → List ℕ → List Item → List Item
 fieldThen stage at tag bytes later =
-    Item.field at stage (tag ∷ bytes) ∷ fieldSays (rowOf tag) at (tag ∷ bytes) ++ later
+    Item.head at stage (tag ∷ bytes) ∷ fieldSays (rowOf tag) at (tag ∷ bytes) ++ later
 
 -- as many fields as there are bytes are enough
 items-fuel :
@@ -42,7 +42,7 @@ items-fuel (suc k) (suc k₂) stage at (tag ∷ bytes) h h₂ =
 step :
     (k : ℕ) (stage : Stage) (at : ℕ) (bytes : List ℕ) → 0 < length bytes → length bytes ≤ k
     → itemsFrom k stage at bytes
-    ≡ Item.field at stage bytes ∷ fieldSays (rowOf (getD bytes 0 0)) at bytes
+    ≡ Item.head at stage bytes ∷ fieldSays (rowOf (getD bytes 0 0)) at bytes
     ++ itemsFrom k (stageBehind (rowOf (getD bytes 0 0)) stage) (at + sizeOf bytes) (drop (sizeOf bytes) bytes)
 unfolding itemsFrom
 step k stage at [] some h = absurd (omega arith)
@@ -76,7 +76,7 @@ items-end book stage = rw (drop-of-length-le book {i = length book} (omega arith
 pub items-field :
     (book : List ℕ) (stage : Stage) (at : ℕ) → at < length book
     → itemsAt book stage at
-    ≡ Item.field at stage (drop at book) ∷ fieldSays (rowOf (getD (drop at book) 0 0)) at (drop at book)
+    ≡ Item.head at stage (drop at book) ∷ fieldSays (rowOf (getD (drop at book) 0 0)) at (drop at book)
     ++ itemsAt book (stageBehind (rowOf (getD (drop at book) 0 0)) stage) (at + sizeOf (drop at book))
 items-field book stage at h =
     let l = length-drop at book in

@@ -16,8 +16,7 @@ use Rattle.order.proofs.Refusals.{stage}
 use Rattle.promise.specs.declared.Session.{Session}
 use Rattle.promise.specs.declared.Counted.{Counted}
 use Rattle.promise.specs.Refusals.{standing}
-use Rattle.promise.specs.Calls.{Owed}
-use Rattle.promise.specs.Counts.{countNumber, TooShort}
+use Rattle.promise.specs.Calls.{Owed, countNumber, TooShort}
 use Rattle.promise.specs.Hierarchy.{Under, HeadOf, Head, Third, Direct, NextRung, Ladder, LadderOf, Above, Number, ladderRefusals, ladder}
 use Rattle.promise.proofs.Standing.{Stands, standing-own, standing-passed, standing-there, below-of}
 use Rattle.promise.proofs.Calls.{Fixed, owed-unique}

@@ -6,10 +6,10 @@ use Prim.Native.Nat.{ℕ, zero, suc, _+_, _*_, _≤_, _<_}
 use native.Mathlib.Nat.{suc-mul, mul-le-mul, mod-lt, div-lt-iff-lt-mul}
 use native.Mathlib.Omega.{arith}
 use lib.ListN.{length, length-append}
-use Rattle.order.specs.Pairs.{Pair, bytesOf}
+use Rattle.order.specs.Tables.{Pair, bytesOf}
 use Rattle.order.proofs.Pairs.{length-bytes}
 use Rattle.order.proofs.Counting.{pairs-two}
-use Rattle.promise.specs.Write.{field, PairsMarked, BookOf}
+use Rattle.promise.specs.Book.{field, PairsMarked, BookOf}
 use Rattle.promise.proofs.Write.{off?}
 
 -- "10 + 2 times the count of both in bytes"

@@ -9,7 +9,7 @@ use Prim.Native.Nat.{ℕ, zero, suc, _+_, _*_, _-_, _≤_}
 use native.Mathlib.Nat.{mul-suc, suc-mul, mul-left-comm, le-of-mul-le-mul-left}
 use native.Mathlib.Omega.{arith}
 use lib.ListN.{length}
-use Rattle.order.specs.Pairs.{Pair, Lists}
+use Rattle.order.specs.Tables.{Pair, Lists}
 use Rattle.order.proofs.Decide.{either}
 use Rattle.order.proofs.Counting.{
   sum,

@@ -8,8 +8,7 @@ use Prim.Native.Nat.{ℕ, _+_, _≤_, _<_}
 use native.Mathlib.Decide.{ℕ-discrete, decLt}
 use native.Mathlib.Omega.{arith}
 use Rattle.order.specs.Facts.{Fact, factOn}
-use Rattle.order.specs.Tables.{mark, opens}
-use Rattle.order.specs.Pairs.{Pair, Before, Lists}
+use Rattle.order.specs.Tables.{mark, opens, Pair, Before, Lists}
 use Rattle.order.specs.Refusals.{First}
 use Rattle.order.proofs.Counts.{opens-none}
 use Rattle.order.proofs.Pairs.{before-not, pairsOf, pairs-listed}

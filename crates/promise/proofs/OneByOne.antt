@@ -10,8 +10,7 @@ use native.Mathlib.Nat.{add-zero}
 use native.Mathlib.Omega.{arith}
 use lib.ListN.{length}
 use Rattle.order.specs.Facts.{Fact, factOn, notUnder, Listed, Below}
-use Rattle.order.specs.Tables.{Marks}
-use Rattle.order.specs.Pairs.{Pair}
+use Rattle.order.specs.Tables.{Marks, Pair}
 use Rattle.order.specs.Refusals.{First}
 use Rattle.order.proofs.Decide.{both, negated}
 use Rattle.order.proofs.Tables.{sound-table, marks-within}
@@ -19,8 +18,7 @@ use Rattle.order.proofs.Pairs.{pairsOf, pairs-listed}
 use Rattle.promise.specs.declared.Session.{Session}
 use Rattle.promise.specs.declared.Reply.{Reply}
 use Rattle.promise.specs.Refusals.{standing}
-use Rattle.promise.specs.Sessions.{refusal}
-use Rattle.promise.specs.Calls.{Owed}
+use Rattle.promise.specs.Calls.{refusal, Owed}
 use Rattle.promise.specs.Tell.{Kind, tell}
 use Rattle.promise.specs.Clips.{Flagged, ClipNo, MemberBeyond, clip}
 use Rattle.promise.specs.Runs.{StandsFor, Intake, taking, Said, AllFit, Made, Run, callsOf, AllAccepted}

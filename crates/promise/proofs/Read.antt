@@ -15,8 +15,7 @@ use Rattle.promise.specs.declared.Stage.the-variants.{Begun}
 use Rattle.promise.specs.declared.Session.{Session}
 use Rattle.promise.specs.declared.Reply.{Reply}
 use Rattle.promise.specs.Refusals.{badVerdict}
-use Rattle.promise.specs.Sessions.{noSession, reply}
-use Rattle.promise.specs.Calls.{Owed}
+use Rattle.promise.specs.Calls.{noSession, reply, Owed}
 use Rattle.promise.specs.Tell.{Kind, fresh, tell}
 use Rattle.promise.specs.Runs.{Intake, Made, Run, FromFresh}
 use Rattle.promise.specs.Book.{fieldRefusals, Item, itemsOf, factOf, Ends, GoesOn, Follows, BookRead}
@@ -60,7 +59,7 @@ follows-unique :
     (items : List Item) (s : Session) (t : List ℕ) {r r₂ : Reply} {t′ t₂ : List ℕ} → Follows items s t r t′
     → Follows items s t r₂ t₂ → (r ≡ r₂) × (t′ ≡ t₂)
 follows-unique [] s t h h₂ = ends-unique h h₂
-follows-unique (Item.field p stage bytes ∷ items) s t {r₂ = r₂} {t₂ = t₂} h h₂ =
+follows-unique (Item.head p stage bytes ∷ items) s t {r₂ = r₂} {t₂ = t₂} h h₂ =
     goes-unique (h .0) p (follows-unique items s t) (h .2)
     (subst (λ (k : ℕ). GoesOn k p s t r₂ t₂ (Follows items s t r₂ t₂))
     (first-unique (fieldRefusals stage bytes) (h₂ .0) (h .0) (h₂ .1) (h .1)) (h₂ .2))
@@ -116,7 +115,7 @@ made-there C (q, u) h p L later =
 
 unfoldable pub follows-there : (items : List Item) → Following items
 follows-there [] s t = (reply 0 0 s, t, (refl, refl))
-follows-there (Item.field p stage bytes ∷ items) s t =
+follows-there (Item.head p stage bytes ∷ items) s t =
     let k = field-there stage bytes in
     let x = goes-there (k .0) p s t (Follows items s t) (λ _. follows-there items s t) in
     (x .0, x .1, (k .0, k .1, x .2))
@@ -142,13 +141,13 @@ read-there book t = let q = follows-there (itemsOf book) noSession t in (q .0, q
 -- the facts said, as calls that were accepted
 abbrev pub callsSaid : List Item → List Made
 callsSaid [] = []
-callsSaid (Item.field p stage bytes ∷ items) = callsSaid items
+callsSaid (Item.head p stage bytes ∷ items) = callsSaid items
 callsSaid (Item.begin p n ∷ items) = callsSaid items
 callsSaid (Item.said p kind a b v ∷ items) =
     record { call = Intake.fact kind (factOf a b v); number = 0 } ∷ callsSaid items
 
 abbrev pub placeOf : Item → ℕ
-placeOf (Item.field p stage bytes) = p
+placeOf (Item.head p stage bytes) = p
 placeOf (Item.begin p n) = p
 placeOf (Item.said p kind a b v) = p
 
@@ -189,8 +188,8 @@ passed-over item place items h = go (decLt (placeOf item) place)
 
 none-before : (place at : ℕ) (items : List Item) → place ≤ at → PlacesRise at items → itemsBefore place items ≡ []
 none-before place at [] h l = refl
-none-before place at (Item.field p stage bytes ∷ items) h l =
-    passed-over (Item.field p stage bytes) place items (omega (arith, l .0))
+none-before place at (Item.head p stage bytes ∷ items) h l =
+    passed-over (Item.head p stage bytes) place items (omega (arith, l .0))
     ∙ none-before place p items (omega (arith, l .0)) (l .1)
 none-before place at (Item.begin p n ∷ items) h l =
     passed-over (Item.begin p n) place items (omega (arith, l .0))
@@ -212,12 +211,12 @@ one-before item place items h = go (decLt (placeOf item) place)
 
 field-calls :
     (p : ℕ) (stage : Stage) (bytes : List ℕ) (place : ℕ) (items : List Item)
-    → callsSaid (itemsBefore place (Item.field p stage bytes ∷ items)) ≡ callsSaid (itemsBefore place items)
+    → callsSaid (itemsBefore place (Item.head p stage bytes ∷ items)) ≡ callsSaid (itemsBefore place items)
 field-calls p stage bytes place items = go (decLt p place)
   where
     go :
         (d : Dec (p < place))
-        → callsSaid (ifBefore d (Item.field p stage bytes) (itemsBefore place items)) ≡ callsSaid (itemsBefore place items)
+        → callsSaid (ifBefore d (Item.head p stage bytes) (itemsBefore place items)) ≡ callsSaid (itemsBefore place items)
     go (yes z) = refl
     go (no z) = refl
 
@@ -258,10 +257,10 @@ Onward book at items s t r t′ = (r .number ≢ 0 → at ≤ r .place) × Follo
 module _ (book : List ℕ) where
   field-run :
       (at p : ℕ) (stage : Stage) (bytes : List ℕ) (items : List Item) (s : Session) (t : List ℕ) {r : Reply} {t′ : List ℕ} → at ≤ p
-      → Onward book p items s t r t′ → Onward book at (Item.field p stage bytes ∷ items) s t r t′
+      → Onward book p items s t r t′ → Onward book at (Item.head p stage bytes ∷ items) s t r t′
   field-run at p stage bytes items s t {r} {t′} h (le, f) = (λ ne. omega (arith, le ne), go f)
     where
-      go : Followed book items s t r t′ → Followed book (Item.field p stage bytes ∷ items) s t r t′
+      go : Followed book items s t r t′ → Followed book (Item.head p stage bytes ∷ items) s t r t′
       go (Followed.all z place run) = Followed.all z place run
       go (Followed.some z run stop) =
           Followed.some z
@@ -290,12 +289,12 @@ module _ (book : List ℕ) where
       → Later book items → Stands s t → Follows items s t r t′ → Onward book at items s t r t′
   follows-run at [] s t rise l st h = rw (h .0, h .1) (λ z. absurd (z refl), Followed.all refl refl Run.stop)
   follows-run at (Item.begin p n ∷ items) s t rise l st h = absurd l
-  follows-run at (Item.field p stage bytes ∷ items) s t rise l st (k, first, inl (ne, e)) = (
+  follows-run at (Item.head p stage bytes ∷ items) s t rise l st (k, first, inl (ne, e)) = (
     λ _. rw (e .0) (rise .0),
-    stops-here book k p (Item.field p stage bytes ∷ items) (omega arith, rise .1) ne
+    stops-here book k p (Item.head p stage bytes ∷ items) (omega arith, rise .1) ne
         (Stopped.at-field (l .2) (rw (← l .0, ← l .1) first)) e,
   )
-  follows-run at (Item.field p stage bytes ∷ items) s t rise l st (k, first, inr (z, later)) =
+  follows-run at (Item.head p stage bytes ∷ items) s t rise l st (k, first, inr (z, later)) =
       field-run at p stage bytes items s t (rise .0)
       (follows-run p items s t (rise .1) (l .3 (subst (First (fieldRefusals stage bytes)) z first)) st later)
   follows-run at (Item.said p kind a b v ∷ items) s t rise l st (k, first, inl (ne, e)) =
@@ -338,9 +337,9 @@ read-run {book} {t} {r} {t′} h = go (itemsOf book) (items-whole book) (h .foll
     -- behind the first field
     counted :
         (p₀ : ℕ) (stage : Stage) (bytes : List ℕ) (items : List Item) → Counted book items → Follows items noSession t r t′
-        → itemsOf book ≡ Item.field p₀ stage bytes ∷ items → ReadAs book t r t′
+        → itemsOf book ≡ Item.head p₀ stage bytes ∷ items → ReadAs book t r t′
     counted p₀ stage bytes [] c f e = absurd c
-    counted p₀ stage bytes (Item.field p st b ∷ items) c f e = absurd c
+    counted p₀ stage bytes (Item.head p st b ∷ items) c f e = absurd c
     counted p₀ stage bytes (Item.said p kind a b v ∷ items) c f e = absurd c
     counted p₀ stage bytes (Item.begin p n ∷ items) c (q, u, begun, inl (k, x)) e =
         let kept = changes-kept begun k in
@@ -371,9 +370,9 @@ read-run {book} {t} {r} {t′} h = go (itemsOf book) (items-whole book) (h .foll
     go [] w f e = absurd w
     go (Item.begin p n ∷ items) w f e = absurd w
     go (Item.said p kind a b v ∷ items) w f e = absurd w
-    go (Item.field p stage bytes ∷ items) w (k, first, inl (ne, x)) e =
+    go (Item.head p stage bytes ∷ items) w (k, first, inl (ne, x)) e =
         rw (x .0) (ReadAs.not-begun (w .0) refl (x .1) (inr (field-numbers stage bytes k first ne)))
-    go (Item.field p stage bytes ∷ items) w (k, first, inr (z, later)) e =
+    go (Item.head p stage bytes ∷ items) w (k, first, inr (z, later)) e =
         counted p stage bytes items (w .3 (subst (First (fieldRefusals stage bytes)) z first)) later e
 
 -- "Numbers 3 and 4 can't come up in reading."

@@ -10,9 +10,8 @@ use native.Mathlib.Omega.{arith}
 use lib.ListN.{length, take, drop}
 use lib.Seq.{take-at}
 use Rattle.order.specs.Facts.{Fact, Facts, factOn, _and_, _with_, _⊆_, Listed, Within, Chain}
-use Rattle.order.specs.Tables.{mark, Sound, Marks, SameMarks, TableOf, markFor}
+use Rattle.order.specs.Tables.{mark, Sound, Marks, SameMarks, TableOf, markFor, Pair, bytesOf}
 use Rattle.order.specs.Orders.{Impossible}
-use Rattle.order.specs.Pairs.{Pair, bytesOf}
 use Rattle.order.specs.Refusals.{First}
 use Rattle.order.proofs.Refusals.{first-unique}
 use Rattle.order.proofs.Sets.{and-none, none-and, Settled, Follows as Entailed, entails-subset, follows-one, with-listed, listed-with}
@@ -24,14 +23,11 @@ use Rattle.promise.specs.declared.Reply.{Reply}
 use Rattle.promise.specs.declared.Counted.{Counted}
 use Rattle.promise.specs.declared.Counted.the-variants.{Count}
 use Rattle.promise.specs.Refusals.{badVerdict}
-use Rattle.promise.specs.Sessions.{noSession, started, accepted}
-use Rattle.promise.specs.Calls.{Owed}
+use Rattle.promise.specs.Calls.{noSession, started, accepted, Owed, countFor}
 use Rattle.promise.specs.Clips.{truthOf}
 use Rattle.promise.specs.Tell.{Kind, tell}
 use Rattle.promise.specs.Runs.{StandsFor}
-use Rattle.promise.specs.Book.{fieldRefusals, Item, itemsOf, factOf, GoesOn, Follows, BookRead}
-use Rattle.promise.specs.Counts.{countFor}
-use Rattle.promise.specs.Write.{field, PairsMarked, BookOf, writeRefusals, write}
+use Rattle.promise.specs.Book.{fieldRefusals, Item, itemsOf, factOf, GoesOn, Follows, BookRead, field, PairsMarked, BookOf, writeRefusals, write}
 use Rattle.promise.proofs.Standing.{standing-passed}
 use Rattle.promise.proofs.Calls.{changes-session}
 use Rattle.promise.proofs.Fresh.{fresh-accepted, fresh-stands}
@@ -43,7 +39,7 @@ use Rattle.promise.proofs.BookSays.{tellsOf, pairFields, secondAt, pair
 -- every item tells a fact of S, or is a field that is not refused
 abbrev AllTold : Facts → List Item → Type 0
 AllTold S [] = Unit {0}
-AllTold S (Item.field p stage bytes ∷ items) = First (fieldRefusals stage bytes) 0 × AllTold S items
+AllTold S (Item.head p stage bytes ∷ items) = First (fieldRefusals stage bytes) 0 × AllTold S items
 AllTold S (Item.begin p m ∷ items) = ⊥
 AllTold S (Item.said p kind a b v ∷ items) = (kind ≡ Kind.told) × (v ≤ 1) × S (factOf a b v) × AllTold S items
 
@@ -66,9 +62,9 @@ module _ (n : ℕ) (G : Facts) (within : Within n G) (possible : ¬ Impossible n
       → (r ≡ accepted (started n)) × StandsFor (S and Listed (factsSaid items)) (started n) t′
   told-accepted [] S t t′ i l st h = (h .0, rw (h .1) (stands-equal (λ f m. inl m) (and-none S (λ f m. List·Memᴰ·not-nil m)) st))
   told-accepted (Item.begin p m ∷ items) S t t′ i l st h = absurd l
-  told-accepted (Item.field p stage bytes ∷ items) S t t′ i l st (k, first, inl (ne, e)) =
+  told-accepted (Item.head p stage bytes ∷ items) S t t′ i l st (k, first, inl (ne, e)) =
       absurd (ne (first-unique (fieldRefusals stage bytes) k 0 first (l .0)))
-  told-accepted (Item.field p stage bytes ∷ items) S t t′ i l st (k, first, inr (z, later)) =
+  told-accepted (Item.head p stage bytes ∷ items) S t t′ i l st (k, first, inr (z, later)) =
       told-accepted items S t t′ i (l .1) st later
   told-accepted (Item.said p kind a b v ∷ items) S t t′ i l st (k, first, inl (ne, e)) =
       absurd (ne (first-unique (badVerdict v ∷ []) k 0 first (inr (λ z. omega (arith, l .1), refl))))
@@ -128,7 +124,7 @@ read-back {n} {t} {book} {u} {r} {u′} k st some few room h =
     told : AllTold (Marks n t) items
     told = (
       fine .1,
-      tells-told (Marks n t) 1 (4 + 3) ys (Item.field (secondAt ys) Begun (field 3 (bytesOf zs)) ∷ tellsOf 0 (secondAt ys + 3) zs)
+      tells-told (Marks n t) 1 (4 + 3) ys (Item.head (secondAt ys) Begun (field 3 (bytesOf zs)) ∷ tellsOf 0 (secondAt ys + 3) zs)
           (omega arith) (marked 1 (k .yes-listed))
           (fine .2, rw (append-nil (tellsOf 0 (secondAt ys + 3) zs)) at (tells-told (Marks n t) 0 (secondAt ys + 3) zs [] (omega arith) (marked 0 (k .no-listed)) tt)),
     )
@@ -173,7 +169,7 @@ read-back {n} {t} {book} {u} {r} {u′} k st some few room h =
         (x .0, same (x .1 .table))
 
     started-right :
-        Follows (Item.field 0 Start book ∷ Item.begin 0 n ∷ items) noSession u r u′
+        Follows (Item.head 0 Start book ∷ Item.begin 0 n ∷ items) noSession u r u′
         → (r ≡ accepted (started n)) × SameMarks n t u′
     started-right (number, first, inl (ne, _)) =
         absurd (ne (first-unique (fieldRefusals Start book) number 0 first (fine .0)))

@@ -13,7 +13,7 @@ use Rattle.promise.specs.declared.Counted.{Counted}
 use Rattle.promise.specs.declared.Counted.the-variants.{Count, Refused}
 use Rattle.promise.specs.declared.CrossedQuestion.{CrossedQuestion}
 use Rattle.promise.specs.declared.CrossedCount.{CrossedCount}
-use Rattle.promise.specs.Sessions.{started}
+use Rattle.promise.specs.Calls.{started}
 use Rattle.promise.specs.Tell.{Kind}
 
 -- a call with all that goes in

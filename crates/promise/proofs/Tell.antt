@@ -21,12 +21,10 @@ use Rattle.order.proofs.Counts.{opens-with}
 use Rattle.order.proofs.Taking.{taken-in, taken-table, newMark, length-laid}
 use Rattle.promise.specs.declared.Session.{Session}
 use Rattle.promise.specs.declared.Reply.{Reply}
-use Rattle.promise.specs.Sessions.{tested, accepted}
+use Rattle.promise.specs.Calls.{tested, accepted, Owed, over}
 use Rattle.promise.specs.Refusals.{standing}
-use Rattle.promise.specs.Calls.{Owed}
 use Rattle.promise.specs.Tell.{Kind, adds, tellRefusals, tell}
 use Rattle.promise.specs.Runs.{StandsFor}
-use Rattle.promise.specs.Counts.{over}
 use Rattle.promise.proofs.Standing.{Stands, standing-passed, stands-first, first-stands, standing-there, below-of}
 use Rattle.promise.proofs.Taking.{Leaves, stands-of}
 use Rattle.promise.proofs.Calls.{owed-done, changes-unique, changes-kept, changes-session, changes-there}

@@ -7,14 +7,12 @@ use Prim.Native.Nat.{ℕ, _*_, _≤_}
 use native.Mathlib.Nat.{mul-le-mul}
 use native.Mathlib.Omega.{arith}
 use lib.ListN.{length}
-use Rattle.order.specs.Tables.{Sound}
-use Rattle.order.specs.Pairs.{Pair}
+use Rattle.order.specs.Tables.{Sound, Pair}
 use Rattle.order.specs.Refusals.{First}
 use Rattle.order.proofs.Pairs.{length-bytes}
 use Rattle.promise.specs.declared.Session.{Session}
 use Rattle.promise.specs.declared.Counted.{Counted}
-use Rattle.promise.specs.Calls.{Owed}
-use Rattle.promise.specs.Counts.{countNumber}
+use Rattle.promise.specs.Calls.{Owed, countNumber}
 use Rattle.promise.specs.Hierarchy.{Under, Direct, StepsOf, hierarchyRefusals, hierarchy}
 use Rattle.promise.proofs.Standing.{Stands, standing-own}
 use Rattle.promise.proofs.Mantel.{NoTriangle, few-edges}

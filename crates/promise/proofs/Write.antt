@@ -7,8 +7,7 @@ use Prim.Native.Nat.{ℕ}
 use native.Mathlib.Decide.{ℕ-discrete}
 use native.Mathlib.Omega.{arith}
 use lib.ListN.{length}
-use Rattle.order.specs.Tables.{mark}
-use Rattle.order.specs.Pairs.{Pair, bytesOf}
+use Rattle.order.specs.Tables.{mark, Pair, bytesOf}
 use Rattle.order.specs.Refusals.{First}
 use Rattle.order.proofs.Decide.{both, negated}
 use Rattle.order.proofs.Refusals.{stage}
@@ -17,9 +16,8 @@ use Rattle.order.proofs.Sound.{is}
 use Rattle.promise.specs.declared.Session.{Session}
 use Rattle.promise.specs.declared.Counted.{Counted}
 use Rattle.promise.specs.Refusals.{standing}
-use Rattle.promise.specs.Calls.{Owed}
-use Rattle.promise.specs.Counts.{TooShort}
-use Rattle.promise.specs.Write.{field, BookOf, writeRefusals, write}
+use Rattle.promise.specs.Calls.{Owed, TooShort}
+use Rattle.promise.specs.Book.{field, BookOf, writeRefusals, write}
 use Rattle.promise.proofs.Standing.{standing-passed, standing-there}
 use Rattle.promise.proofs.Calls.{Fixed, owed-unique}
 use Rattle.promise.proofs.Counts.{too-short?, writes-fixed, writes-there, writes-length}

@@ -9,22 +9,18 @@ use Prim.Native.Nat.{ℕ, zero, suc, _+_, _*_}
 use native.Mathlib.Omega.{arith}
 use lib.ListN.{getD, set}
 use Rattle.order.specs.Facts.{Fact, factOn, under, notUnder}
-use Rattle.order.specs.Tables.{mark, Marks, Contradicts, Fresh, markFor, markAgainst}
-use Rattle.order.specs.Pairs.{Before}
+use Rattle.order.specs.Tables.{mark, Marks, Contradicts, Fresh, markFor, markAgainst, Before}
 use Rattle.order.proofs.Sets.{yes-not-no}
 use Rattle.promise.specs.declared.Session.{Session}
 use Rattle.promise.specs.declared.Reply.{Reply}
 use Rattle.promise.specs.declared.Question.the-variants.{Ask, Done}
 use Rattle.promise.specs.declared.Counted.the-variants.{Count}
-use Rattle.promise.specs.Sessions.{started}
-use Rattle.promise.specs.Calls.{Call, Owed}
+use Rattle.promise.specs.Calls.{started, Call, Owed, countNumber, openPairs}
 use Rattle.promise.specs.Tell.{Kind, fresh, tell}
 use Rattle.promise.specs.Clips.{ClipNo, clip}
 use Rattle.promise.specs.Next.{next}
-use Rattle.promise.specs.Counts.{countNumber, openPairs}
 use Rattle.promise.specs.Hierarchy.{hierarchy, ladder}
-use Rattle.promise.specs.Book.{BookRead}
-use Rattle.promise.specs.Write.{write}
+use Rattle.promise.specs.Book.{BookRead, write}
 use Rattle.promise.proofs.Fresh.{fresh-unique}
 use Rattle.promise.proofs.Tell.{tell-unique}
 use Rattle.promise.proofs.Clips.{clip-unique}
@@ -34,8 +30,7 @@ use Rattle.promise.proofs.Hierarchy.{hierarchy-unique}
 use Rattle.promise.proofs.Ladder.{ladder-written-unique}
 use Rattle.promise.proofs.Read.{read-unique}
 use Rattle.promise.proofs.Write.{write-unique}
-use Rattle.promise.proofs.Table.{Mark, p2, p3, p4, p7, p8, p11, p12, afterYes, oneUnderTwo, firstTwo, firstOne}
-use Rattle.promise.proofs.Table.{three, four, nines, example}
+use Rattle.promise.proofs.Table.{Mark, p2, p3, p4, p7, p8, p11, p12, afterYes, oneUnderTwo, firstTwo, firstOne, three, four, nines, example}
 use Rattle.promise.proofs.Worked.{met}
 
 -- A contract: what goes in, what comes out, what is owed, the refusal number, and that what is owed fixes the outcome.

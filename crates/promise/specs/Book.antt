@@ -1,4 +1,4 @@
--- Fact books, what the bytes of one say, and reading: document 01, "The fact book".
+-- Fact books: what the bytes of one say, reading and writing. Document 01, "The fact book".
 -- Assumes nothing.
 use mathlib.Core.Path.{_≡_}
 use mathlib.Core.Logic.{_≢_, _⊎_}
@@ -9,15 +9,16 @@ use lib.Dec.{eqb}
 use lib.ListN.{length, getD, drop}
 use Rattle.order.specs.Refusals.{Condition, First}
 use Rattle.order.specs.Facts.{Fact, factOn}
+use Rattle.order.specs.Tables.{mark, Pair, Lists, bytesOf}
 use Rattle.promise.specs.declared.Stage.{Stage}
 use Rattle.promise.specs.declared.Stage.the-variants.{Start, Begun}
 use Rattle.promise.specs.declared.Session.{Session}
 use Rattle.promise.specs.declared.Reply.{Reply}
-use Rattle.promise.specs.Refusals.{cutShort, unknownTag, misplacedTag, badLength, badVerdict}
+use Rattle.promise.specs.declared.Counted.{Counted}
+use Rattle.promise.specs.Refusals.{cutShort, unknownTag, misplacedTag, badLength, badVerdict, standing, noRoom}
 use Rattle.promise.specs.Tell.{Kind, fresh, tell}
-use Rattle.promise.specs.Sessions.{noSession, reply}
+use Rattle.promise.specs.Calls.{noSession, reply, Owed, Call, TooShort, writes}
 use Rattle.promise.specs.Clips.{truthOf}
-use Rattle.promise.specs.Calls.{Owed}
 
 -- what the contents of a field are: a class count, or facts of so many bytes each, all of one kind, with the verdict that the bytes from
 -- a fact on give
@@ -112,7 +113,7 @@ fieldRefusals stage bytes =
 -- What reading comes to, one after the other, each with its place: a field, at its tag byte, with the stage of reading and all bytes from
 -- there on; a class count, at the tag byte; a fact, at its first byte.
 pub data Item : Type 0 where
-  field : (place : ℕ) (stage : Stage) (bytes : List ℕ) → Item
+  head : (place : ℕ) (stage : Stage) (bytes : List ℕ) → Item
   begin : (place classes : ℕ) → Item
   said : (place : ℕ) (kind : Kind) (lower upper verdict : ℕ) → Item
 
@@ -145,13 +146,13 @@ itemsFrom zero stage at bytes = []
 itemsFrom (suc fuel) stage at [] = []
 itemsFrom (suc fuel) stage at (tag ∷ bytes) =
     let field = tag ∷ bytes in
-    Item.field at stage field
+    Item.head at stage field
     ∷ fieldSays (rowOf tag) at field
     ++ itemsFrom fuel (stageBehind (rowOf tag) stage) (at + sizeOf field) (drop (sizeOf field) field)
 
 -- what a book comes to, an empty one to its missing first field; it has no more fields than bytes
 abbrev pub itemsOf : List ℕ → List Item
-itemsOf [] = Item.field 0 Start [] ∷ []
+itemsOf [] = Item.head 0 Start [] ∷ []
 itemsOf (tag ∷ bytes) = itemsFrom (suc (length bytes)) Start 0 (tag ∷ bytes)
 
 -- the fact that three bytes make, "verdict 1 yes or 0 no"
@@ -170,7 +171,7 @@ GoesOn number place s t r t′ later = ((number ≢ 0) × Ends number place s t 
 -- gives 1, 2, and each fact 14, 5, 6". The reply is r, and the table is then t′.
 abbrev pub Follows : List Item → Session → List ℕ → Reply → List ℕ → Type 0
 Follows [] s t r t′ = Ends 0 0 s t r t′
-Follows (Item.field place stage bytes ∷ items) s t r t′ =
+Follows (Item.head place stage bytes ∷ items) s t r t′ =
     (k : ℕ) × First (fieldRefusals stage bytes) k × GoesOn k place s t r t′ (Follows items s t r t′)
 Follows (Item.begin place n ∷ items) s t r t′ =
     (r₁ : Reply) × (t₁ : List ℕ) × Owed (fresh n t) (r₁, t₁)
@@ -184,3 +185,27 @@ Follows (Item.said place kind a b v ∷ items) s t r t′ =
 -- read, given a book and the table t, replies r, and the table is then t′
 pub record BookRead (book t : List ℕ) (r : Reply) (t′ : List ℕ) : Type 0 where
   pub followed : Follows (itemsOf book) noSession t r t′
+
+-- "one-byte tag, two-byte length (high byte first), that many bytes"
+abbrev pub field : ℕ → List ℕ → List ℕ
+field tag bytes = tag ∷ length bytes / 256 ∷ length bytes % 256 ∷ bytes
+
+-- the pairs off the diagonal that t marks m, "each in row order"
+abbrev pub PairsMarked : ℕ → List ℕ → ℕ → List Pair → Type 0
+PairsMarked n t m l = Lists n (λ a b. (a ≢ b) × (mark n t a b ≡ m)) l
+
+-- "The writer gives tag 1, then one tag 2 with every yes pair and one tag 3 with every no pair off the diagonal"
+pub record BookOf (n : ℕ) (t book : List ℕ) : Type 0 where
+  pub yes-pairs : List Pair
+  pub no-pairs : List Pair
+  pub yes-listed : PairsMarked n t 1 yes-pairs
+  pub no-listed : PairsMarked n t 2 no-pairs
+  pub bytes : book ≡ field 1 (n ∷ []) ++ (field 2 (bytesOf yes-pairs) ++ field 3 (bytesOf no-pairs))
+
+-- "writer 8"
+abbrev pub writeRefusals : Session → List ℕ → List ℕ → List Condition
+writeRefusals s t out = noRoom (TooShort (BookOf (s .classes) t) out) ∷ []
+
+-- write, with session s, table t and a buffer; it counts the bytes
+abbrev pub write : Session → List ℕ → List ℕ → Call (Counted × List ℕ)
+write s t out = writes (standing s t (writeRefusals s t out)) (BookOf (s .classes) t) out

@@ -5,15 +5,13 @@ use mathlib.Core.Logic.{_≢_, _⊎_}
 use mathlib.Core.List.{List, [], _∷_}
 use Prim.Native.Nat.{ℕ, _≤_, _<_, suc}
 use lib.ListN.{length, getD}
-use Rattle.order.specs.Tables.{mark}
-use Rattle.order.specs.Pairs.{Pair, Lists, bytesOf}
+use Rattle.order.specs.Tables.{mark, Pair, Lists, bytesOf}
 use Rattle.order.specs.Refusals.{Condition}
 use Rattle.promise.specs.declared.Session.{Session}
 use Rattle.promise.specs.declared.Counted.{Counted}
 use Rattle.promise.specs.declared.Counted.the-variants.{Count, Refused}
 use Rattle.promise.specs.Refusals.{standing, stillOpen, noRoom, noSuchClass, noLadder}
-use Rattle.promise.specs.Calls.{Call}
-use Rattle.promise.specs.Counts.{countNumber, over, TooShort, writes}
+use Rattle.promise.specs.Calls.{Call, countNumber, over, TooShort, writes}
 
 -- a is under b
 abbrev pub Under : ℕ → List ℕ → ℕ → ℕ → Type 0

@@ -1,11 +1,8 @@
-pub mod Sessions
 pub mod Refusals
 pub mod Calls
 pub mod Tell
 pub mod Clips
 pub mod Runs
 pub mod Next
-pub mod Counts
 pub mod Hierarchy
 pub mod Book
-pub mod Write

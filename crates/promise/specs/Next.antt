@@ -6,8 +6,7 @@ use mathlib.Core.Bool.{Bool, true, false}
 use mathlib.Core.List.{List, []}
 use Prim.Native.Nat.{ℕ, suc, _<_}
 use Rattle.order.specs.Facts.{factOn}
-use Rattle.order.specs.Tables.{mark}
-use Rattle.order.specs.Pairs.{Before}
+use Rattle.order.specs.Tables.{mark, Before}
 use Rattle.promise.specs.declared.Session.{Session}
 use Rattle.promise.specs.declared.Reply.{Reply}
 use Rattle.promise.specs.declared.Question.{Question}

@@ -1,7 +1,6 @@
 -- Fresh, tell and answer: a new table, and a fact taken in.
 -- Assumes nothing.
 use mathlib.Core.Logic.{_⊎_}
-use mathlib.Core.Bool.{Bool, true, false}
 use mathlib.Core.List.{List, [], _∷_}
 use Prim.Native.Nat.{ℕ, zero, suc, _≤_}
 use Rattle.order.specs.Facts.{Fact, _with_}
@@ -9,9 +8,8 @@ use Rattle.order.specs.Tables.{mark, TableOf, Marks, Contradicts, Fresh}
 use Rattle.order.specs.Refusals.{Condition}
 use Rattle.promise.specs.declared.Session.{Session}
 use Rattle.promise.specs.declared.Reply.{Reply}
-use Rattle.promise.specs.Sessions.{tested, noSession, started}
+use Rattle.promise.specs.Calls.{tested, noSession, started, Call, changes}
 use Rattle.promise.specs.Refusals.{standing, noSuchClass, contradicted, badCount, shortTable}
-use Rattle.promise.specs.Calls.{Call, changes}
 
 -- "fresh 1, 2"
 abbrev pub freshRefusals : ℕ → List ℕ → List Condition
@@ -33,11 +31,6 @@ adds Kind.told number m = 0
 adds Kind.answered zero zero = 1
 adds Kind.answered zero (suc m) = 0
 adds Kind.answered (suc k) m = 0
-
--- an answer counts, a tell does not
-abbrev pub kindOf : Bool → Kind
-kindOf true = Kind.answered
-kindOf false = Kind.told
 
 -- "tell and answer 5, 6"
 abbrev pub tellRefusals : Session → List ℕ → Fact → List Condition

@@ -14,8 +14,8 @@ use Rattle.promise.specs.declared.Stage.the-variants.{Start, Begun}
 use Rattle.promise.specs.declared.Session.{Session}
 use Rattle.promise.specs.declared.Reply.{Reply}
 use Rattle.promise.specs.Refusals.{standing}
-use Rattle.promise.specs.Sessions.{noSession, reply, accepted}
-use Rattle.promise.specs.Tell.{kindOf}
+use Rattle.promise.specs.Calls.{noSession, reply, accepted}
+use Rattle.session.specs.Facts.{kindOf}
 use Rattle.promise.specs.Book.{onceBegun, rowOf, lengthOf, sizeOf, fieldRefusals, Item, factsFrom, stageBehind, itemsOf, Follows, BookRead}
 use Rattle.promise.proofs.Items.{itemsAt, items-start, items-end, items-field, facts-step, facts-end}
 use Rattle.promise.proofs.Book.{ends-within, stage-behind}
@@ -161,13 +161,13 @@ module _ {book t₀ : List ℕ} {at : ℕ} {stage : Stage} {s : Session} {t : Li
 
   module _
       (l : at < length book) {r : Reply} {t₁ : List ℕ}
-      (part : PartFollowed (Item.field at stage (drop at book) ∷ saidAt book at) s t r t₁)
+      (part : PartFollowed (Item.head at stage (drop at book) ∷ saidAt book at) s t r t₁)
     where
       abbrev items-behind : List Item
       items-behind = itemsAt book (stageBehind (rowOf (getD (drop at book) 0 0)) stage) (at + sizeOf (drop at book))
 
       whole :
-          (q : Reply) (t′ : List ℕ) → Follows (Item.field at stage (drop at book) ∷ saidAt book at ++ items-behind) s t q t′
+          (q : Reply) (t′ : List ℕ) → Follows (Item.head at stage (drop at book) ∷ saidAt book at ++ items-behind) s t q t′
           → Follows (itemsOf book) noSession t₀ q t′
       whole q t′ f =
           h .all q t′ (subst (λ (items : List Item). Follows items s t q t′) (sym (items-field book stage at l)) f)
@@ -176,13 +176,13 @@ module _ {book t₀ : List ℕ} {at : ℕ} {stage : Stage} {s : Session} {t : Li
       book-refused ne =
           record {
             followed =
-                whole r t₁ (follows-stop items-behind r t₁ ne (Item.field at stage (drop at book) ∷ saidAt book at) s t (part .follows));
+                whole r t₁ (follows-stop items-behind r t₁ ne (Item.head at stage (drop at book) ∷ saidAt book at) s t (part .follows));
           }
 
       right-here : r .number ≡ 0 → First (fieldRefusals stage (drop at book)) 0
       right-here z = go (part .follows)
         where
-          go : Follows (Item.field at stage (drop at book) ∷ saidAt book at) s t r t₁ → First (fieldRefusals stage (drop at book)) 0
+          go : Follows (Item.head at stage (drop at book) ∷ saidAt book at) s t r t₁ → First (fieldRefusals stage (drop at book)) 0
           go (k, first, inl (ne, e)) = absurd (ne (sym (ap (λ (x : Reply). x .number) (e .0)) ∙ z))
           go (k, first, inr (e, _)) = subst (First (fieldRefusals stage (drop at book))) e first
 
@@ -201,7 +201,7 @@ module _ {book t₀ : List ℕ} {at : ℕ} {stage : Stage} {s : Session} {t : Li
             stands = λ _. part .stands z;
             all = λ q t′ f.
                 whole q t′
-                (follows-on items-behind r q t₁ t′ z (Item.field at stage (drop at book) ∷ saidAt book at) s t (part .follows)
+                (follows-on items-behind r q t₁ t′ z (Item.head at stage (drop at book) ∷ saidAt book at) s t (part .follows)
                 (subst (λ (stage₁ : Stage). Follows (itemsAt book stage₁ (at + sizeOf (drop at book))) (r .session) t₁ q t′)
                 (sym (stage-behind stage (drop at book) (right-here z))) f));
           })

@@ -14,8 +14,7 @@ use Rattle.promise.specs.declared.Stage.{Stage}
 use Rattle.promise.specs.declared.Session.{Session}
 use Rattle.promise.specs.declared.Reply.{Reply}
 use Rattle.promise.specs.Refusals.{standing}
-use Rattle.promise.specs.Sessions.{reply, accepted}
-use Rattle.promise.specs.Calls.{Owed}
+use Rattle.promise.specs.Calls.{reply, accepted, Owed}
 use Rattle.promise.specs.Clips.{truthOf}
 use Rattle.promise.specs.Tell.{Kind, fresh, tell}
 use Rattle.promise.specs.Book.{fieldRefusals, Item, factOf, GoesOn, Follows}
@@ -34,8 +33,8 @@ module _ (rest : List Item) (r₁ r : Reply) (t₁ t′ : List ℕ) (z : r₁ .n
       (items : List Item) (s : Session) (t : List ℕ) → Follows items s t r₁ t₁ → Follows rest (r₁ .session) t₁ r t′
       → Follows (items ++ rest) s t r t′
   follows-on [] s t (e, u) h = rw (e, u) at h
-  follows-on (Item.field p stage bytes ∷ items) s t (k, first, inl (ne, e)) h = absurd (refused-not ne (e .0) z)
-  follows-on (Item.field p stage bytes ∷ items) s t (k, first, inr (y, f)) h =
+  follows-on (Item.head p stage bytes ∷ items) s t (k, first, inl (ne, e)) h = absurd (refused-not ne (e .0) z)
+  follows-on (Item.head p stage bytes ∷ items) s t (k, first, inr (y, f)) h =
       (k, first, inr (y, follows-on items s t f h))
   follows-on (Item.begin p n ∷ items) s t (q, u, begun, inl (ne, e)) h = absurd (refused-not ne (e .0) z)
   follows-on (Item.begin p n ∷ items) s t (q, u, begun, inr (y, f)) h =
@@ -50,8 +49,8 @@ module _ (rest : List Item) (r : Reply) (t′ : List ℕ) (ne : r .number ≢ 0)
   pub follows-stop :
       (items : List Item) (s : Session) (t : List ℕ) → Follows items s t r t′ → Follows (items ++ rest) s t r t′
   follows-stop [] s t (e, u) = absurd (ne (ap (λ (x : Reply). x .number) e))
-  follows-stop (Item.field p stage bytes ∷ items) s t (k, first, inl e) = (k, first, inl e)
-  follows-stop (Item.field p stage bytes ∷ items) s t (k, first, inr (y, f)) =
+  follows-stop (Item.head p stage bytes ∷ items) s t (k, first, inl e) = (k, first, inl e)
+  follows-stop (Item.head p stage bytes ∷ items) s t (k, first, inr (y, f)) =
       (k, first, inr (y, follows-stop items s t f))
   follows-stop (Item.begin p n ∷ items) s t (q, u, begun, inl e) = (q, u, begun, inl e)
   follows-stop (Item.begin p n ∷ items) s t (q, u, begun, inr (y, f)) =
@@ -127,13 +126,13 @@ count-taken {q = q} {t′ = t′} h placed =
 -- a field that is refused, and one that is not with what it says
 pub field-refused :
     {p k : ℕ} {stage : Stage} {bytes : List ℕ} {s : Session} {t : List ℕ} (items : List Item) → First (fieldRefusals stage bytes) k
-    → k ≢ 0 → PartFollowed (Item.field p stage bytes ∷ items) s t (reply k p s) t
+    → k ≢ 0 → PartFollowed (Item.head p stage bytes ∷ items) s t (reply k p s) t
 field-refused {k = k} items first ne =
     record { follows = (k, first, inl (ne, (refl, refl))); stands = λ e. absurd (ne e) }
 
 pub field-followed :
     {p k : ℕ} {stage : Stage} {bytes : List ℕ} {s : Session} {t : List ℕ} (items : List Item) {r : Reply} {t′ : List ℕ}
     → First (fieldRefusals stage bytes) k → k ≡ 0 → PartFollowed items s t r t′
-    → PartFollowed (Item.field p stage bytes ∷ items) s t r t′
+    → PartFollowed (Item.head p stage bytes ∷ items) s t r t′
 field-followed {k = k} items first e part =
     record { follows = (k, first, inr (e, part .follows)); stands = part .stands }

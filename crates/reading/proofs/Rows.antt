@@ -8,7 +8,8 @@ use Prim.Native.Nat.{ℕ, _≤_}
 use native.Mathlib.Omega.{arith}
 use borrow.Author.Tests.{eq-eqb, ne-eqb}
 use lib.Dec.{eqb}
-use Rattle.promise.specs.Tell.{Kind, kindOf}
+use Rattle.promise.specs.Tell.{Kind}
+use Rattle.session.specs.Facts.{kindOf}
 use Rattle.promise.specs.Book.{Contents, Lookup, rowOf}
 use Rattle.promise.proofs.Tags.{FactsTag, RowIs, row-is}
 use Rattle.reading.specs.declared.tags.Row.{Row}

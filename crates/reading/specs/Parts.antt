@@ -13,8 +13,9 @@ use Rattle.promise.specs.declared.Stage.the-variants.{Start, Begun}
 use Rattle.promise.specs.declared.Session.{Session}
 use Rattle.promise.specs.declared.Reply.{Reply}
 use Rattle.promise.specs.Refusals.{standing}
-use Rattle.promise.specs.Sessions.{reply}
-use Rattle.promise.specs.Tell.{Kind, kindOf}
+use Rattle.promise.specs.Calls.{reply}
+use Rattle.promise.specs.Tell.{Kind}
+use Rattle.session.specs.Facts.{kindOf}
 use Rattle.promise.specs.Book.{countRow, factsRow, Lookup, rowOf, lengthOf, fieldRefusals, Item, factsFrom, fieldSays, Follows}
 use Rattle.reading.specs.declared.tags.Row.{Row}
 

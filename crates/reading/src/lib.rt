@@ -53,7 +53,7 @@ fn read_field(
     table: &mut [u8],
 ) -> Reply
     requires { ⌜ FieldReady stage (now book) at size session (now table) ⌝ }
-    ensures { λ r. ⌜ PartFollowed (Item.field at stage (drop at (now (book .entry))) ∷ saidAt (now (book .entry)) at) session
+    ensures { λ r. ⌜ PartFollowed (Item.head at stage (drop at (now (book .entry))) ∷ saidAt (now (book .entry)) at) session
         (now (table .entry)) r (now (table .exit)) ⌝ }
 {
     let row = row_of(book[at]);

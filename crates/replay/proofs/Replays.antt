@@ -14,8 +14,7 @@ use Rattle.order.specs.Tables.{mark}
 use Rattle.order.specs.Orders.{Impossible, Exact}
 use Rattle.promise.specs.declared.Session.{Session}
 use Rattle.promise.specs.declared.Reply.{Reply}
-use Rattle.promise.specs.Sessions.{accepted}
-use Rattle.promise.specs.Calls.{Owed}
+use Rattle.promise.specs.Calls.{accepted, Owed}
 use Rattle.promise.specs.Tell.{Kind, fresh, tell}
 use Rattle.promise.specs.Clips.{Flagged, clip}
 use Rattle.promise.specs.Runs.{Intake, taking, SaidBy, Fits, Made, Run, callsOf, Accepted, testsIn}

@@ -10,8 +10,7 @@ use Rattle.order.specs.Facts.{factOn}
 use Rattle.promise.specs.declared.Session.{Session}
 use Rattle.promise.specs.declared.Reply.{Reply}
 use Rattle.promise.specs.Clips.{truthOf}
-use Rattle.promise.specs.Sessions.{accepted}
-use Rattle.promise.specs.Calls.{Owed}
+use Rattle.promise.specs.Calls.{accepted, Owed}
 use Rattle.promise.specs.Tell.{Kind, fresh}
 use Rattle.promise.specs.Runs.{Intake, Made, FromFresh, callsOf}
 

@@ -11,14 +11,13 @@ use Rattle.order.specs.Tables.{mark, Marks, Contradicts}
 use Rattle.order.proofs.Tables.{mark-against-settled}
 use Rattle.promise.specs.declared.Session.{Session}
 use Rattle.promise.specs.declared.Reply.{Reply}
-use Rattle.promise.specs.Sessions.{tested, refusal, accepted}
-use Rattle.promise.specs.Calls.{Owed}
-use Rattle.promise.specs.Tell.{Kind, kindOf, adds, tellRefusals, tell}
+use Rattle.promise.specs.Calls.{tested, refusal, accepted, Owed}
+use Rattle.promise.specs.Tell.{Kind, adds, tellRefusals, tell}
+use Rattle.session.specs.Facts.{kindOf, countOf, Judged}
 use Rattle.promise.proofs.Standing.{Stands, first-stands}
 use Rattle.promise.proofs.Calls.{owed-refused, owed-done}
 use Rattle.promise.proofs.Tell.{agreeing-accepted}
 use Rattle.passes.specs.Taken.{OpenPair, FactTaken}
-use Rattle.session.specs.Facts.{countOf, Judged}
 
 module _ (kind : Kind) {s : Session} {t : List ℕ} (st : Stands s t) (lower upper : ℕ) where
   -- 5: a class number is n or more

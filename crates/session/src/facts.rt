@@ -12,9 +12,9 @@ ghost use Rattle.order.specs.Facts.{factOn};
 ghost use Rattle.order.specs.Refusals.{First};
 ghost use Rattle.promise.specs.Refusals.{standing};
 ghost use Rattle.promise.specs.Calls.{Owed};
-ghost use Rattle.promise.specs.Tell.{kindOf, tell};
+ghost use Rattle.session.specs.Facts.{kindOf, Judged};
+ghost use Rattle.promise.specs.Tell.{tell};
 ghost use Rattle.passes.specs.Taken.{OpenPair, FactTaken};
-ghost use Rattle.session.specs.Facts.{Judged};
 
 // A fact on an open pair is taken in.
 fn take_in(n: usize, table: &mut [u8], lower: usize, upper: usize, holds: bool)

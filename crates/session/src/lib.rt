@@ -16,10 +16,9 @@ pub use replies::refused;
 use replies::started;
 pub use replies::stopped;
 ghost use Rattle.order.specs.Facts.{factOn};
-ghost use Rattle.promise.specs.Calls.{Owed};
+ghost use Rattle.promise.specs.Calls.{Owed, openPairs};
 ghost use Rattle.promise.specs.Tell.{Kind, fresh, tell};
 ghost use Rattle.promise.specs.Next.{next};
-ghost use Rattle.promise.specs.Counts.{openPairs};
 
 // A new table: yes on the diagonal, open elsewhere.
 pub fn fresh(classes: usize, table: &mut [u8]) -> Reply

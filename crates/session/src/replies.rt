@@ -3,7 +3,7 @@ use promise::Reply;
 use promise::Session;
 ghost use mathlib.Core.Path.{_≡_};
 ghost use Prim.Native.Nat.{_<_};
-ghost use Rattle.promise.specs.Sessions.{noSession, started, tested, reply, refusal, accepted};
+ghost use Rattle.promise.specs.Calls.{noSession, started, tested, reply, refusal, accepted};
 ghost use Rattle.session.specs.Facts.{countOf};
 
 // The session of a fresh table.

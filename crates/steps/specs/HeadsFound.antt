@@ -3,8 +3,7 @@
 use mathlib.Core.List.{List}
 use Prim.Native.Nat.{ℕ, _≤_, _<_}
 use lib.ListN.{length, getD}
-use Rattle.order.specs.Tables.{Sound}
-use Rattle.order.specs.Pairs.{Pair}
+use Rattle.order.specs.Tables.{Sound, Pair}
 use Rattle.promise.specs.Hierarchy.{HeadOf, StepsOf}
 use Rattle.buffers.specs.Noted.{Noted}
 use Rattle.marks.specs.Shape.{Shape}

@@ -5,7 +5,7 @@ use mathlib.Core.List.{[]}
 use Prim.Native.Nat.{ℕ}
 use Rattle.order.specs.Refusals.{First}
 use Rattle.promise.specs.Refusals.{standing}
-use Rattle.promise.specs.Counts.{openPairs}
+use Rattle.promise.specs.Calls.{openPairs}
 use Rattle.promise.specs.declared.Counted.the-variants.{Count}
 use Rattle.promise.proofs.Standing.{stood}
 use Rattle.promise.proofs.Calls.{owed-refused, owed-done}

@@ -1,7 +1,7 @@
 -- `dawnhangra::c::dawnhangra_write` meets its contract: what C gets is the image of what the call gave.
 -- Assumes nothing.
 use mathlib.Core.Path.{refl}
-use Rattle.promise.specs.Write.{write}
+use Rattle.promise.specs.Book.{write}
 use Rattle.promise.proofs.Crossing.{writes-crosses}
 use borrow.Author.Needs.{needs}
 use Rattle.dawnhangra.proofs.c.dawnhangra_write.Statement.{statement}

@@ -7,8 +7,7 @@ use Prim.Native.Nat.{ℕ, _+_, _≤_, _<_, _-_}
 use native.Mathlib.Decide.{ℕ-discrete}
 use native.Mathlib.Omega.{arith}
 use borrow.Author.Needs.{needs}
-use Rattle.order.specs.Tables.{mark}
-use Rattle.order.specs.Pairs.{Before}
+use Rattle.order.specs.Tables.{mark, Before}
 use Rattle.promise.specs.declared.Question.the-variants.{Done}
 use Rattle.marks.proofs.Shape.{reads}
 use Rattle.marks.proofs.whole.first_open.Statement.{statement}

@@ -6,7 +6,8 @@ use Prim.Native.Nat.{ℕ}
 use Rattle.order.specs.Facts.{factOn}
 use Rattle.order.specs.Refusals.{First}
 use Rattle.promise.specs.Refusals.{standing}
-use Rattle.promise.specs.Tell.{kindOf, tellRefusals, tell}
+use Rattle.session.specs.Facts.{kindOf}
+use Rattle.promise.specs.Tell.{tellRefusals, tell}
 use Rattle.promise.proofs.Standing.{standing-refused}
 use Rattle.promise.proofs.Calls.{owed-refused}
 use borrow.Author.Needs.{needs}

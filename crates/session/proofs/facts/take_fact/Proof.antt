@@ -3,7 +3,7 @@
 use mathlib.Core.Path.{refl, _∙_, ap}
 use mathlib.Core.Logic.{inl, inr}
 use native.Mathlib.Omega.{arith}
-use Rattle.promise.specs.Tell.{kindOf}
+use Rattle.session.specs.Facts.{kindOf}
 use Rattle.promise.proofs.Standing.{stood, square}
 use Rattle.marks.specs.Shape.{byteOf}
 use Rattle.marks.proofs.Shape.{shaped}

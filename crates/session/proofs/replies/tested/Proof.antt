@@ -4,7 +4,7 @@ use mathlib.Core.Path.{_≡_, refl, subst⁻¹}
 use mathlib.Core.Bool.{Bool}
 use native.Mathlib.Nat.{add-zero}
 use borrow.Author.Needs.{needs}
-use Rattle.promise.specs.Sessions.{tested}
+use Rattle.promise.specs.Calls.{tested}
 use Rattle.session.specs.Facts.{countOf}
 use Rattle.session.proofs.replies.tested.Statement.{statement}
 use Rattle.session.proofs.replies.tested.Tie as tie
