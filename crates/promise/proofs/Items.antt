@@ -1,7 +1,7 @@
 -- The items of a book from any place on, in terms of the bytes there, with nothing left out: one field after the other, and in a field one
 -- fact after the other. And a field's refusals by its bytes, as document 01 words them.
 -- Assumes nothing.
-use mathlib.Core.Path.{_≡_, refl, ap}
+use mathlib.Core.Path.{_≡_, refl}
 use mathlib.Core.Logic.{_≢_}
 use mathlib.Core.List.{List, [], _∷_, _++_}
 use Prim.Native.Nat.{ℕ, zero, suc, _+_, _≤_, _<_}
@@ -29,9 +29,10 @@ items-fuel (suc k) (suc k₂) stage at [] h h₂ = refl
 items-fuel (suc k) (suc k₂) stage at (tag ∷ bytes) h h₂ =
     let field = tag ∷ bytes in
     let l = length-drop (sizeOf field) field in
-    ap (λ (later : List Item). Item.field at stage field ∷ fieldSays (rowOf tag) at field ++ later)
+    rw
     (items-fuel k k₂ (stageBehind (rowOf tag) stage) (at + sizeOf field) (drop (sizeOf field) field) (omega arith)
     (omega arith))
+    refl
 
 -- the items of these bytes, of which the first stands at place at
 step :
@@ -45,9 +46,10 @@ step zero stage at (tag ∷ bytes) some h = absurd (omega arith)
 step (suc k) stage at (tag ∷ bytes) some h =
     let field = tag ∷ bytes in
     let l = length-drop (sizeOf field) field in
-    ap (λ (later : List Item). Item.field at stage field ∷ fieldSays (rowOf tag) at field ++ later)
+    rw
     (items-fuel k (suc k) (stageBehind (rowOf tag) stage) (at + sizeOf field) (drop (sizeOf field) field) (omega arith)
     (omega arith))
+    refl
 
 -- the items from place at on
 abbrev pub itemsAt : List ℕ → Stage → ℕ → List Item
