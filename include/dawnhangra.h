@@ -71,7 +71,8 @@ typedef struct dawnhangra_question {
     size_t upper;
 } dawnhangra_question;
 
-// What hierarchy, ladder and write give: how many steps, rungs or bytes were written, 0 where refused.
+// What open_pairs, hierarchy, ladder and write give: how many pairs are open, how many steps, rungs or bytes were
+// written, 0 where refused.
 typedef struct dawnhangra_count {
     uint8_t number;
     size_t place;
@@ -99,6 +100,9 @@ dawnhangra_reply dawnhangra_clip(
 
 // Names the first open pair, rows in rising order and then columns. Refuses with 1 to 4.
 dawnhangra_question dawnhangra_next(dawnhangra_session session, const uint8_t *table, size_t table_length);
+
+// Counts the open pairs; changes nothing. Refuses with 1 to 4.
+dawnhangra_count dawnhangra_open_pairs(dawnhangra_session session, const uint8_t *table, size_t table_length);
 
 // Writes the head of each class, the lowest number of its group, and the direct steps between heads, a and b for each, ordered by a and then
 // b; counts the steps. Refuses with 1 to 4, 7, 8. Heads are n bytes; for the steps 2*(n*n/4) bytes always suffice.

@@ -27,6 +27,26 @@ static void need(uint8_t number, const char *call)
     }
 }
 
+// Asks as long as a pair is open, and prints how far the night has come. Gives the session after the last answer.
+static dawnhangra_session ask_all(dawnhangra_session session, uint8_t *table, size_t table_length)
+{
+    for (;;) {
+        dawnhangra_question question = dawnhangra_next(session, table, table_length);
+        need(question.number, "next");
+        if (!question.asks) {
+            return session;
+        }
+        size_t lower = question.lower, upper = question.upper;
+        bool holds = is_under(lower, upper);
+        dawnhangra_reply reply = dawnhangra_answer(session, table, table_length, lower, upper, holds);
+        need(reply.number, "answer");
+        session = reply.session;
+        dawnhangra_count left = dawnhangra_open_pairs(session, table, table_length);
+        need(left.number, "open_pairs");
+        printf("%s under %s? %s, %zu pairs open\n", NAMES[lower], NAMES[upper], holds ? "yes" : "no", left.count);
+    }
+}
+
 int main(void)
 {
     uint8_t table[RECEIVERS * RECEIVERS];
@@ -48,24 +68,14 @@ int main(void)
     reply = dawnhangra_clip(reply.session, table, sizeof table, played, sizeof played);
     need(reply.number, "clip");
 
-    // Ask as long as a pair is open.
-    for (;;) {
-        dawnhangra_question question = dawnhangra_next(reply.session, table, sizeof table);
-        need(question.number, "next");
-        if (!question.asks) {
-            break;
-        }
-        bool holds = is_under(question.lower, question.upper);
-        printf("%s under %s? %s\n", NAMES[question.lower], NAMES[question.upper], holds ? "yes" : "no");
-        reply = dawnhangra_answer(reply.session, table, sizeof table, question.lower, question.upper, holds);
-        need(reply.number, "answer");
-    }
-    printf("%zu tests\n", reply.session.tests);
+    dawnhangra_session session = ask_all(reply.session, table, sizeof table);
+    printf("%zu tests\n", session.tests);
 
     // Groups and direct steps.
     uint8_t heads[RECEIVERS];
     uint8_t steps[2 * (RECEIVERS * RECEIVERS / 4)];
-    dawnhangra_count wrote = dawnhangra_hierarchy(reply.session, table, sizeof table, heads, sizeof heads, steps, sizeof steps);
+    dawnhangra_count wrote =
+        dawnhangra_hierarchy(session, table, sizeof table, heads, sizeof heads, steps, sizeof steps);
     need(wrote.number, "hierarchy");
     for (size_t i = 0; i < RECEIVERS; i++) {
         printf("%s has head %s\n", NAMES[i], NAMES[heads[i]]);
@@ -76,7 +86,7 @@ int main(void)
 
     // From the phone up to the television.
     uint8_t rungs[RECEIVERS];
-    wrote = dawnhangra_ladder(reply.session, table, sizeof table, 0, 1, rungs, sizeof rungs);
+    wrote = dawnhangra_ladder(session, table, sizeof table, 0, 1, rungs, sizeof rungs);
     need(wrote.number, "ladder");
     printf("ladder:");
     for (size_t i = 0; i < wrote.count; i++) {

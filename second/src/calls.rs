@@ -56,6 +56,11 @@ pub fn next(session: Session, table: &[u8]) -> Result<Option<(usize, usize)>, Re
     Ok(given(session, table)?.first_open())
 }
 
+/// The count of open pairs among the n*n. Refusals 1 to 4.
+pub fn open_pairs(session: Session, table: &[u8]) -> Result<usize, Refusal> {
+    Ok(given(session, table)?.open_pairs())
+}
+
 /// "Hierarchy writes n heads, a byte each in class order, to one buffer and
 /// the direct steps to another, two bytes each, ordered by a and then b; it
 /// returns their count." Refusals 1 to 4, then 7, 8.

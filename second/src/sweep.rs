@@ -93,10 +93,10 @@ impl<W: Write> Sweep<W> {
         self.lines.flush()
     }
 
-    /// A call with trouble: "`k = draw 18` says which, after the trouble."
+    /// A call with trouble: "`k = draw 19` says which, after the trouble."
     fn call(&mut self) -> io::Result<()> {
         let given = self.trouble();
-        match self.draw.index(18) {
+        match self.draw.index(19) {
             0..=4 => self.tell(given),
             5..=8 => self.drawn_answer(given),
             9 | 10 => self.next(given).map(|_| ()),
@@ -104,7 +104,8 @@ impl<W: Write> Sweep<W> {
             12 | 13 => self.ladder(given),
             14 => self.write(given),
             15 => self.read(given),
-            _ => self.clip(given),
+            16 | 17 => self.clip(given),
+            _ => self.open_pairs(given),
         }
     }
 
@@ -283,6 +284,15 @@ impl<W: Write> Sweep<W> {
         let digests = [digest(table)];
         self.lines.session('C', result, session, &digests)?;
         self.settle(result.is_ok(), session, &given);
+        Ok(())
+    }
+
+    fn open_pairs(&mut self, given: Given) -> io::Result<()> {
+        let table = &self.table[..given.lent];
+        let result = calls::open_pairs(given.session, table);
+        let digests = [digest(table)];
+        self.lines.count('O', result, &digests)?;
+        self.settle(result.is_ok(), given.session, &given);
         Ok(())
     }
 

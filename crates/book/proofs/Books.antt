@@ -14,19 +14,21 @@ use Rattle.promise.specs.declared.Session.{Session}
 use Rattle.promise.specs.declared.Counted.{Counted}
 use Rattle.promise.specs.declared.Counted.the-variants.{Count, Refused}
 use Rattle.promise.specs.Refusals.{standing}
-use Rattle.promise.specs.Write.{field, Marked, BookOf, writeRefusals, BookWritten}
-use Rattle.promise.proofs.Standing.{Stands, standing-refused, first-stands}
-use Rattle.promise.proofs.Counts.{writes-refused}
-use Rattle.promise.proofs.Write.{Off, off?, book-length, book-longest}
+use Rattle.promise.specs.Calls.{Owed}
+use Rattle.promise.specs.Write.{field, PairsMarked, BookOf, writeRefusals, write}
+use Rattle.promise.proofs.Standing.{Stands, standing-refused, first-stands, square}
+use Rattle.promise.proofs.Calls.{owed-refused, owed-done}
+use Rattle.promise.proofs.Write.{Off, off?}
+use Rattle.promise.proofs.Lengths.{book-length, book-longest}
 use Rattle.buffers.specs.Placed.{Put}
 use Rattle.buffers.proofs.Placing.{put-then, put-before}
 use Rattle.buffers.proofs.Parts.{part, replaced, part-length, part-placed}
+use Rattle.standing.proofs.Left.{left-owed}
 use Rattle.marks.specs.Shape.{Shape}
-use Rattle.marks.proofs.Shape.{square}
-use Rattle.book.specs.Fields.{PairsNoted, FieldFits, FieldPut, BookFits, BookPut, BookLeft}
+use Rattle.book.specs.Fields.{PairsNoted, FieldFits, FieldPut, BookFits, BookPut, writeLeft}
 
 -- the pairs with one mark are few, for they are at most n * n
-marked-few : (n : ℕ) (t : List ℕ) (m : ℕ) {l : List Pair} → n ≤ 128 → Marked n t m l → length l ≤ 16384
+marked-few : (n : ℕ) (t : List ℕ) (m : ℕ) {l : List Pair} → n ≤ 128 → PairsMarked n t m l → length l ≤ 16384
 marked-few n t m few h =
     let P = Off n t m in
     let dec = off? n t m in
@@ -66,7 +68,7 @@ module _ {n : ℕ} {t : List ℕ} {tag m : ℕ} {out : List ℕ} {at : ℕ} (fit
 
 -- the three fields
 
-module _ {n : ℕ} {t : List ℕ} {ys zs : List Pair} (yes-listed : Marked n t 1 ys) (no-listed : Marked n t 2 zs) where
+module _ {n : ℕ} {t : List ℕ} {ys zs : List Pair} (yes-listed : PairsMarked n t 1 ys) (no-listed : PairsMarked n t 2 zs) where
   pub book-of : BookOf n t (field 1 (n ∷ []) ++ (field 2 (bytesOf ys) ++ field 3 (bytesOf zs)))
   book-of =
       record { yes-pairs = ys; no-pairs = zs; yes-listed = yes-listed; no-listed = no-listed; bytes = refl }
@@ -79,10 +81,10 @@ module _ {n : ℕ} {t : List ℕ} {ys zs : List Pair} (yes-listed : Marked n t 1
 
 module _ {n : ℕ} {t out : List ℕ} (fits : BookFits n t out) where
   both-fit :
-      {ys zs : List Pair} → Marked n t 1 ys → Marked n t 2 zs → 10 + 2 * (length ys + length zs) ≤ length out
+      {ys zs : List Pair} → PairsMarked n t 1 ys → PairsMarked n t 2 zs → 10 + 2 * (length ys + length zs) ≤ length out
   both-fit p q = omega (arith, fits .room _ (book-of p q), book-size p q _ (book-of p q))
 
-  some-no : Marked n t 2 (pairsOf (Off n t 2) (off? n t 2) n)
+  some-no : PairsMarked n t 2 (pairsOf (Off n t 2) (off? n t 2) n)
   some-no = pairs-listed (Off n t 2) (off? n t 2) n
 
   pub front-fits : 10 ≤ length out
@@ -127,14 +129,10 @@ module _
         let book = book-of (ys .1) (zs .1) in
         omega (arith, counted _ book, book-longest book few)
 
-    pub book-short : (out : List ℕ) → length out < 10 + 2 * (yes + no) → BookLeft n t out (Refused 8 0) out
+    pub book-short : (out : List ℕ) → length out < 10 + 2 * (yes + no) → Owed (writeLeft n t out) (Refused 8 0, out)
     book-short out short =
         let book = book-of (ys .1) (zs .1) in
-        record {
-          number = inl ((_, book, omega (arith, counted _ book)), refl);
-          place = refl;
-          buffer = (λ e. omega arith, refl);
-        }
+        owed-refused (writeLeft n t out) (λ k. refl) (inl ((_, book, omega (arith, counted _ book)), refl)) (λ e. omega arith)
 
     pub book-fits : (out : List ℕ) → Shape n t → 10 + 2 * (yes + no) ≤ length out → BookFits n t out
     book-fits out shape room =
@@ -142,25 +140,20 @@ module _
 
 pub book-done :
     {n : ℕ} {t out out′ : List ℕ} {size : ℕ} → BookFits n t out → BookPut n t out size out′
-    → BookLeft n t out (Count size) out′
-book-done fits h =
-    record {
-      number = inr (λ z. omega (arith, z .2, fits .room (z .0) (z .1)), refl);
-      place = refl;
-      buffer = (h .book, h .is, omega (arith, h .put .ends), h .put .placed .bytes);
-    }
+    → Owed (writeLeft n t out) (Count size, out′)
+book-done {n} {t} {out} {size = size₀} fits h =
+    owed-done (writeLeft n t out) (inr (λ z. omega (arith, z .2, fits .room (z .0) (z .1)), refl)) refl
+    (h .book, h .is, rw (h .put .placed .bytes, size) refl)
+  where
+    size : size₀ ≡ length (h .book)
+    size = omega (arith, h .put .ends)
 
 module _ (s : Session) (t out : List ℕ) where
-  pub write-standing : (k : ℕ) → First (standing s t []) k → k ≢ 0 → BookWritten s t out (Refused k 0) out
+  pub write-standing : (k : ℕ) → First (standing s t []) k → k ≢ 0 → Owed (write s t out) (Refused k 0, out)
   write-standing k f e =
-      writes-refused (standing s t (writeRefusals s t out)) (BookOf (s .classes) t) out
-      (standing-refused (writeRefusals s t out) s t k f e) e
+      owed-refused (write s t out) (λ k. refl) (standing-refused (writeRefusals s t out) s t k f e) e
 
   pub write-left :
-      {r : Counted} {out′ : List ℕ} → Stands s t → BookLeft (s .classes) t out r out′ → BookWritten s t out r out′
-  write-left st h =
-      record {
-        number = first-stands (writeRefusals s t out) st (h .number);
-        place = h .place;
-        buffer = h .buffer;
-      }
+      {o : Counted × List ℕ} → Stands s t → Owed (writeLeft (s .classes) t out) o → Owed (write s t out) o
+  write-left st =
+      left-owed (writeLeft (s .classes) t out .refusals) (write s t out) (first-stands (writeRefusals s t out) st)

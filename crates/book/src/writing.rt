@@ -15,10 +15,11 @@ use standing::refused_count;
 ghost use mathlib.Core.List.{[], _∷_};
 ghost use Prim.Native.Nat.{_+_, _/_, _%_, _<_, _≤_};
 ghost use lib.ListN.{length};
-ghost use Rattle.promise.specs.Write.{BookWritten};
+ghost use Rattle.promise.specs.Calls.{Owed};
+ghost use Rattle.promise.specs.Write.{write};
 ghost use Rattle.buffers.specs.Placed.{Put};
 ghost use Rattle.marks.specs.Shape.{Shape};
-ghost use Rattle.book.specs.Fields.{PairsNoted, FieldFits, FieldPut, BookFits, BookPut, BookLeft};
+ghost use Rattle.book.specs.Fields.{PairsNoted, FieldFits, FieldPut, BookFits, BookPut, writeLeft};
 
 // Counts the pairs off the diagonal that have a mark. Each is written, two bytes, in row order, if it fits: a buffer
 // with room for all gets all, and an empty one serves to count.
@@ -79,7 +80,7 @@ fn write_fields(n: usize, table: &[u8], out: &mut [u8]) -> usize
 // part of the buffer.
 fn write_book(n: usize, table: &[u8], out: &mut [u8]) -> Counted
     requires { ⌜ Shape n (now table) ⌝ }
-    ensures { λ r. ⌜ BookLeft n (now (table .entry)) (now (out .entry)) r (now (out .exit)) ⌝ }
+    ensures { λ r. ⌜ Owed (writeLeft n (now (table .entry)) (now (out .entry))) (r, now (out .exit)) ⌝ }
 {
     let yes = list_marked(n, table, YES, &mut out[..0]);
     let no = list_marked(n, table, NO, &mut out[..0]);
@@ -93,7 +94,7 @@ fn write_book(n: usize, table: &[u8], out: &mut [u8]) -> Counted
 // Writes the book of a table, and gives its length. Refuses with 1 to 4, and with 8 if the buffer is too short; then no
 // byte is written.
 pub fn write(session: Session, table: &[u8], out: &mut [u8]) -> Counted
-    ensures { λ r. ⌜ BookWritten session (now (table .entry)) (now (out .entry)) r (now (out .exit)) ⌝ }
+    ensures { λ r. ⌜ Owed (write session (now (table .entry)) (now (out .entry))) (r, now (out .exit)) ⌝ }
 {
     let number = first_refusal(session, table);
     if number != 0 {

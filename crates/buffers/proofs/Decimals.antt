@@ -1,25 +1,15 @@
 -- Numbers as text: they read back, have no leading zero, and are as long as they need be.
 -- Assumes nothing.
 use mathlib.Core.Path.{_≡_, refl, sym, _∙_, ap}
-use mathlib.Core.Bool.{Bool, true, false}
 use mathlib.Core.List.{List, [], _∷_, _++_}
 use Prim.Native.Nat.{ℕ, zero, suc, _+_, _-_, _*_, _/_, _%_, _^_, _<_, _≤_}
 use native.Mathlib.Decide.{decLt}
 use native.Mathlib.Omega.{arith}
-use lib.Dec.{T, ltb, ltb→lt, lt→ltb}
 use lib.ListN.{length, getD, length-append, List·getD-append}
 use lib.Seq.{getD-at}
-use Rattle.buffers.specs.Decimal.{digit-0, unless, digits, decimal}
+use Rattle.buffers.specs.Decimal.{digit-0, digits, decimal}
 
-unless-true : (b : Bool) (w : List ℕ) → T b → unless b w ≡ []
-unless-true true w h = refl
-unless-true false w h = absurd h
-
-unless-false : (b : Bool) (w : List ℕ) → ¬ T b → unless b w ≡ w
-unless-false true w h = absurd (h tt)
-unless-false false w h = refl
-
--- any number of digits that suffices gives the same
+-- any bound that suffices gives the same digits
 enough : (j k x : ℕ) → x ≤ j → x ≤ k → digits j x ≡ digits k x
 unfolding digits
 enough zero zero x h g = refl
@@ -27,25 +17,30 @@ enough zero (suc k) zero h g = refl
 enough zero (suc k) (suc x) h g = absurd (omega arith)
 enough (suc j) zero zero h g = refl
 enough (suc j) zero (suc x) h g = absurd (omega arith)
-enough (suc j) (suc k) x h g = rw (enough j k (x / 10) (omega arith) (omega arith))
+enough (suc j) (suc k) zero h g = refl
+enough (suc j) (suc k) (suc x) h g = rw (enough j k (suc x / 10) (omega arith) (omega arith))
+
+digits-some : (k x : ℕ) → 0 < x → x ≤ k → digits k x ≡ decimal x
+unfolding digits decimal
+digits-some k zero some h = absurd (omega arith)
+digits-some zero (suc x) some h = absurd (omega arith)
+digits-some (suc k) (suc x) some h = rw (enough k (suc x) (suc x / 10) (omega arith) (omega arith))
 
 -- a number below 10 is one digit
 pub decimal-one : (x : ℕ) → x < 10 → decimal x ≡ (digit-0 + x) ∷ []
 unfolding digits decimal
-decimal-one zero h = refl
-decimal-one (suc x) h =
-    let same : suc x % 10 ≡ suc x = omega arith in
-    rw (unless-true (ltb (suc x) 10) (digits x (suc x / 10)) (lt→ltb (suc x) 10 h), same)
+decimal-one x h =
+    let none : x / 10 ≡ 0 = omega arith in
+    let same : x % 10 ≡ x = omega arith in
+    rw (none, same, enough x 0 0 (omega arith) (omega arith))
 
 -- any other is its last digit behind the others
 pub decimal-more : (x : ℕ) → 10 ≤ x → decimal x ≡ decimal (x / 10) ++ (digit-0 + x % 10) ∷ []
-unfolding digits decimal
-decimal-more zero h = absurd (omega arith)
-decimal-more (suc x) h =
-    rw (
-      unless-false (ltb (suc x) 10) (digits x (suc x / 10)) (λ b. omega (arith, ltb→lt (suc x) 10 b)),
-      enough x (suc x / 10) (suc x / 10) (omega arith) (omega arith),
-    )
+unfolding decimal
+decimal-more x h = rw (digits-some x (x / 10) (omega arith) (omega arith))
+
+pub one-longer : (x : ℕ) → 10 ≤ x → length (decimal x) ≡ length (decimal (x / 10)) + 1
+one-longer x h = rw (decimal-more x h) (length-append (decimal (x / 10)) ((digit-0 + x % 10) ∷ []))
 
 -- the number that digits make, behind those that made v
 unfoldable pub valueFrom : ℕ → List ℕ → ℕ

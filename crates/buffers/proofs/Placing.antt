@@ -25,72 +25,40 @@ place-length w (suc at) [] h = absurd (omega arith)
 place-length w (suc at) (o ∷ out) h = ap suc (place-length w at out (omega arith))
 
 -- bytes placed right behind others make one run with them, whichever of the two are placed first
-place-behind :
+place-both :
     (w x : List ℕ) (at j : ℕ) (out : List ℕ) → j ≡ at + length w → j ≤ length out
-    → place x j (place w at out) ≡ place (w ++ x) at out
-place-behind [] x zero zero out e h = refl
-place-behind [] x zero (suc j) out e h = absurd (omega arith)
-place-behind (y ∷ w) x zero zero out e h = absurd (omega arith)
-place-behind (y ∷ w) x zero (suc j) [] e h = absurd (omega arith)
-place-behind (y ∷ w) x zero (suc j) (o ∷ out) e h =
-    ap (λ (u : List ℕ). y ∷ u) (place-behind w x zero j out (omega arith) (omega arith))
-place-behind w x (suc at) zero out e h = absurd (omega arith)
-place-behind w x (suc at) (suc j) [] e h = absurd (omega arith)
-place-behind w x (suc at) (suc j) (o ∷ out) e h =
-    ap (λ (u : List ℕ). o ∷ u) (place-behind w x at j out (omega arith) (omega arith))
-
-place-before :
-    (w x : List ℕ) (at j : ℕ) (out : List ℕ) → j ≡ at + length w → j ≤ length out
-    → place w at (place x j out) ≡ place (w ++ x) at out
-place-before [] x zero zero out e h = refl
-place-before [] x zero (suc j) out e h = absurd (omega arith)
-place-before (y ∷ w) x zero zero out e h = absurd (omega arith)
-place-before (y ∷ w) x zero (suc j) [] e h = absurd (omega arith)
-place-before (y ∷ w) x zero (suc j) (o ∷ out) e h =
-    ap (λ (u : List ℕ). y ∷ u) (place-before w x zero j out (omega arith) (omega arith))
-place-before w x (suc at) zero out e h = absurd (omega arith)
-place-before w x (suc at) (suc j) [] e h = absurd (omega arith)
-place-before w x (suc at) (suc j) (o ∷ out) e h =
-    ap (λ (u : List ℕ). o ∷ u) (place-before w x at j out (omega arith) (omega arith))
+    → (place x j (place w at out) ≡ place (w ++ x) at out) × (place w at (place x j out) ≡ place (w ++ x) at out)
+place-both [] x zero zero out e h = (refl, refl)
+place-both [] x zero (suc j) out e h = absurd (omega arith)
+place-both (y ∷ w) x zero zero out e h = absurd (omega arith)
+place-both (y ∷ w) x zero (suc j) [] e h = absurd (omega arith)
+place-both (y ∷ w) x zero (suc j) (o ∷ out) e h =
+    let p = place-both w x zero j out (omega arith) (omega arith) in
+    (ap (λ (u : List ℕ). y ∷ u) (p .0), ap (λ (u : List ℕ). y ∷ u) (p .1))
+place-both w x (suc at) zero out e h = absurd (omega arith)
+place-both w x (suc at) (suc j) [] e h = absurd (omega arith)
+place-both w x (suc at) (suc j) (o ∷ out) e h =
+    let p = place-both w x at j out (omega arith) (omega arith) in
+    (ap (λ (u : List ℕ). o ∷ u) (p .0), ap (λ (u : List ℕ). o ∷ u) (p .1))
 
 module _
     {w x : List ℕ} {at j : ℕ} {out out₁ out₂ : List ℕ} (next : j ≡ at + length w) (room : j ≤ length out)
   where
     pub placed-behind : Placed w at out out₁ → Placed x j out₁ out₂ → Placed (w ++ x) at out out₂
-    placed-behind first second =
-        record {
-          bytes =
-              second .bytes
-              ∙ ap (λ (u : List ℕ). place x j u) (first .bytes)
-              ∙ place-behind w x at j out next room;
-        }
+    placed-behind p q = record { bytes = rw (q .bytes, p .bytes) (place-both w x at j out next room .0) }
 
     pub placed-before : Placed x j out out₁ → Placed w at out₁ out₂ → Placed (w ++ x) at out out₂
-    placed-before first second =
-        record {
-          bytes =
-              second .bytes
-              ∙ ap (λ (u : List ℕ). place w at u) (first .bytes)
-              ∙ place-before w x at j out next room;
-        }
+    placed-before p q = record { bytes = rw (q .bytes, p .bytes) (place-both w x at j out next room .1) }
 
 -- nothing was put
 pub put-none : {at : ℕ} {out : List ℕ} → at ≤ length out → Put [] at out at out
 put-none {at} {out} h =
-    record {
-      placed = record { bytes = sym (take-append-drop at out) };
-      ends = omega arith;
-      fits = h;
-    }
+    record { placed = record { bytes = sym (take-append-drop at out) }; ends = omega arith; fits = h }
 
 -- one byte was stored
 pub put-one : {at : ℕ} {out : List ℕ} (x : ℕ) → at < length out → Put (x ∷ []) at out (at + 1) (set out at x)
 put-one {at} {out} x h =
-    record {
-      placed = record { bytes = place-one x at out h };
-      ends = refl;
-      fits = omega arith;
-    }
+    record { placed = record { bytes = place-one x at out h }; ends = refl; fits = omega arith }
 
 -- the length stays
 pub put-length :

@@ -20,8 +20,8 @@ pub fn put_pair(out: &mut [u8], at: usize, a: usize, b: usize)
     ensures { λ _. ⌜ PairPut at a b (now (out .entry)) (now (out .exit)) ⌝ }
 {
     if at + 2 <= out.len() {
-        out[at] = a as u8;
-        out[at + 1] = b as u8;
+        let next = put_byte(&mut *out, at, a as u8);
+        put_byte(out, next, b as u8);
     }
 }
 

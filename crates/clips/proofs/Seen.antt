@@ -12,8 +12,7 @@ use lib.Dec.{leb, eqb}
 use lib.ListN.{getD, length}
 use Rattle.order.specs.Tables.{SomeContradicts}
 use Rattle.order.proofs.Decide.{stable}
-use Rattle.promise.specs.Clips.{truthOf, Flagged, flagsOf}
-use Rattle.promise.specs.Clips.{ClipNo, MemberBeyond}
+use Rattle.promise.specs.Clips.{truthOf, Flagged, flagsOf, ClipNo, MemberBeyond}
 use Rattle.promise.proofs.Flags.{flagged?, flag-there}
 use Rattle.promise.proofs.Clips.{contrary, contrary-pair}
 use Rattle.passes.proofs.Pass.{Gathered}

@@ -1,6 +1,5 @@
 // The calls for C: a buffer is a pointer and a length, and the answers that are enums cross as structs.
 use promise::Counted;
-use promise::Counted;
 use promise::CrossedCount;
 use promise::CrossedQuestion;
 use promise::Question;

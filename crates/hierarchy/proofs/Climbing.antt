@@ -7,8 +7,7 @@ use native.Mathlib.Numerals.{add-one}
 use native.Mathlib.Omega.{arith}
 use lib.ListN.{length, getD, set, take, drop, take-append-drop}
 use lib.Seq.{length-take-le, take-suc, append-snoc, set-append-left, set-at}
-use Rattle.promise.specs.Hierarchy.{HeadOf}
-use Rattle.promise.specs.Hierarchy.{NextRung, Ladder}
+use Rattle.promise.specs.Hierarchy.{HeadOf, NextRung, Ladder}
 use Rattle.promise.proofs.Hierarchy.{head-unique}
 use Rattle.promise.proofs.Ladder.{to-go, rung-falls, head-of-equal}
 use Rattle.steps.specs.HeadsFound.{HeadsFound}

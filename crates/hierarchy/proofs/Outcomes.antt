@@ -18,12 +18,11 @@ use Rattle.promise.specs.Refusals.{standing}
 use Rattle.promise.specs.Calls.{Owed}
 use Rattle.promise.specs.Counts.{over, TooShort}
 use Rattle.promise.specs.Hierarchy.{Under, HeadOf, HeadsOf, StepBytes, hierarchyRefusals, hierarchy, LadderOf, ladderRefusals, ladder}
-use Rattle.promise.proofs.Standing.{Stands, standing-refused, first-stands}
+use Rattle.promise.proofs.Standing.{Stands, standing-refused, first-stands, square}
 use Rattle.promise.proofs.Calls.{owed-refused, owed-done}
 use Rattle.promise.proofs.Hierarchy.{head-head, heads-there, step-bytes-unique}
 use Rattle.promise.proofs.Ladder.{number-most, to-go, through, ladder-unique}
 use Rattle.promise.proofs.Triangles.{steps-few}
-use Rattle.marks.proofs.Shape.{square}
 use Rattle.standing.proofs.Left.{left-owed}
 use Rattle.steps.specs.HeadsFound.{SoundTable, HeadsFound, StepsNoted}
 use Rattle.hierarchy.specs.Climb.{Reached, Climbed}

@@ -4,8 +4,7 @@ use mathlib.Core.Path.{_≡_}
 use mathlib.Core.List.{List, _++_}
 use Prim.Native.Nat.{ℕ, _+_, _≤_, _<_}
 use lib.ListN.{length, take, drop}
-use Rattle.promise.specs.Hierarchy.{Under, Head}
-use Rattle.promise.specs.Hierarchy.{Ladder, Above, Number}
+use Rattle.promise.specs.Hierarchy.{Under, Head, Ladder, Above, Number}
 
 -- rung is a head under the goal, but not the goal's own head
 pub record BelowGoal (n : ℕ) (t : List ℕ) (goal rung : ℕ) : Type 0 where

@@ -9,7 +9,7 @@ use native.Mathlib.Nat.{mul-le-mul}
 use lib.ListN.{length, take}
 use lib.Seq.{take-at}
 use Rattle.order.specs.Tables.{opens}
-use Rattle.order.specs.Pairs.{bytesOf}
+use Rattle.order.specs.Pairs.{Pair, bytesOf}
 use Rattle.order.specs.Refusals.{First}
 use Rattle.promise.specs.declared.Session.{Session}
 use Rattle.promise.specs.declared.Reply.{Reply}
@@ -18,26 +18,25 @@ use Rattle.promise.specs.declared.Question.the-variants.{Ask, Done, Refused}
 use Rattle.promise.specs.declared.Counted.{Counted}
 use Rattle.promise.specs.declared.Counted.the-variants.{Count}
 use Rattle.promise.specs.Refusals.{standing}
-use Rattle.promise.specs.Counts.{over}
-use Rattle.promise.specs.Next.{FirstOpen, Asked}
-use Rattle.promise.specs.Hierarchy.{hierarchyRefusals, HierarchyWritten}
-use Rattle.promise.proofs.Standing.{Stands, standing-passed, stands-first}
+use Rattle.promise.specs.Counts.{openPairs, over}
+use Rattle.promise.specs.Calls.{Owed}
+use Rattle.promise.specs.Next.{FirstOpen, next}
+use Rattle.promise.specs.Hierarchy.{HeadsOf, StepsOf, hierarchyRefusals, hierarchy}
+use Rattle.promise.proofs.Standing.{Stands, standing-passed, stands-first, square}
 use Rattle.promise.proofs.Next.{done-exactly}
 use Rattle.promise.proofs.Triangles.{steps-few, hierarchy-room}
 use Rattle.buffers.specs.Placed.{Put}
 use Rattle.buffers.specs.Decimal.{decimal}
 use Rattle.buffers.proofs.Placing.{put-then}
 use Rattle.buffers.proofs.Decimals.{decimal-written}
-use Rattle.marks.specs.Shape.{Shape}
-use Rattle.marks.proofs.Shape.{square}
 use Rattle.lines.specs.Lines.{countsLine, refusalLine, Shows, classLines, stepLines}
 use Rattle.lines.specs.Put.{LinesPut, pairsIn, QuestionPut, Settled, SettledPut, Reportable, Reported}
 use Rattle.lines.proofs.LineByLine.{byte-short, pairs-back}
 
 -- the pair asked about is the first open one
 pub asked-first :
-    {s : Session} {t : List ℕ} {q : Question} {a b : ℕ} → Asked s t q → q ≡ Ask a b → FirstOpen (s .classes) t a b
-asked-first {s} {t} h e = (rw e at h) .says
+    (s : Session) (t : List ℕ) {q : Question} {a b : ℕ} → Owed (next s t) q → q ≡ Ask a b → FirstOpen (s .classes) t a b
+asked-first s t h e = (rw e at h) .done refl
 
 -- and its numbers are short
 pub question-short :
@@ -52,14 +51,29 @@ question-short s {a = a} {b = b} st p =
     )
 
 -- where a pair is open next is not done
-pub never-done : {s : Session} {t : List ℕ} {q : Question} → 0 < opens (s .classes) t → Asked s t q → q ≡ Done → ⊥
-never-done {s} {t} o h e = let d = rw e at h in omega (arith, done-exactly {s = s} {t = t} d refl .0 refl)
+pub never-done :
+    (s : Session) (t : List ℕ) {q : Question} → 0 < opens (s .classes) t → Owed (next s t) q → q ≡ Done → ⊥
+never-done s t o h e = let d = rw e at h in omega (arith, done-exactly s t d refl .0 refl)
 
 -- where refusals 1 to 4 are not due next refuses nothing
 pub never-refused :
-    {s : Session} {t : List ℕ} {q : Question} {number place : ℕ} → First (standing s t []) 0 → Asked s t q
+    (s : Session) (t : List ℕ) {q : Question} {number place : ℕ} → First (standing s t []) 0 → Owed (next s t) q
     → q ≡ Refused number place → ⊥
-never-refused {s} {t} st h e = let r = rw e at h in r .says (stands-first [] (standing-passed [] st .0) (r .number))
+never-refused s t st h e = let r = rw e at h in r .done (stands-first [] (standing-passed [] st .0) (r .number))
+
+-- nor does the count of open pairs
+pub pairs-counted :
+    (s : Session) (t : List ℕ) {r : Counted} {count : ℕ} → Owed (openPairs s t) r → r ≡ Count count
+    → count ≡ opens (s .classes) t
+pairs-counted s t {r} {count} h e = let d = (rw e at h) .done refl in cc
+
+pub pairs-never-refused :
+    (s : Session) (t : List ℕ) {r : Counted} {number place : ℕ} → First (standing s t []) 0 → Owed (openPairs s t) r
+    → r ≡ Counted.Refused number place → ⊥
+pairs-never-refused s t st h e =
+    let o = rw e at h in
+    let d = o .done (stands-first [] (standing-passed [] st .0) (o .number)) in
+    let z : _≡_ {A = ℕ} 0 1 = cc in omega arith
 
 module _ {s : Session} {t heads steps text : List ℕ} {at : ℕ} (ready : Settled s t heads steps text at) where
   stands : Stands s t
@@ -68,59 +82,81 @@ module _ {s : Session} {t heads steps text : List ℕ} {at : ℕ} (ready : Settl
   pub classes-few : s .classes ≤ 128
   classes-few = stands .few
 
-  module _ {w : Counted} {heads′ steps′ : List ℕ} (h : HierarchyWritten s t heads steps w heads′ steps′) where
-    -- where no pair is open and there is room hierarchy refuses nothing
-    pub never-refused-here : {number place : ℕ} → w ≡ Counted.Refused number place → ⊥
-    never-refused-here e =
-        let r = rw e at h in
-        go (hierarchy-room (ready .heads-room) (ready .steps-room) r) (r .buffers .0)
-        (stands-first (hierarchyRefusals s t heads steps) stands (r .number))
-      where
-        go : {k : ℕ} → k ≢ 8 → k ≢ 0 → First (hierarchyRefusals s t heads steps) k → ⊥
-        go ne nz (inl (some, e)) = omega (arith, ready .none-open)
-        go ne nz (inr (_, inl (short, e))) = ne e
-        go ne nz (inr (_, inr (_, e))) = nz e
+  module _
+      {w : Counted} {heads′ steps′ : List ℕ} (h : Owed (hierarchy s t heads steps) (w, (heads′, steps′)))
+    where
+      -- where no pair is open and there is room hierarchy refuses nothing
+      pub never-refused-here : {number place : ℕ} → w ≡ Counted.Refused number place → ⊥
+      never-refused-here {number} e =
+          let r = rw e at h in
+          go (hierarchy-room s t heads steps (ready .heads-room) (ready .steps-room) r) (refused r)
+          (stands-first (hierarchyRefusals s t heads steps) stands (r .number))
+        where
+          refused :
+              {place : ℕ} → Owed (hierarchy s t heads steps) (Counted.Refused number place, (heads′, steps′)) → number ≢ 0
+          refused r z =
+              let d = r .done z in
+              let same = ap (λ (o : Counted × (List ℕ × List ℕ)). o .0) (d .4) in
+              let y : _≡_ {A = ℕ} 0 1 = cc in
+              omega arith
 
-    -- the steps that were counted are few
-    pub steps-counted : {count : ℕ} → w ≡ Count count → count ≤ 4096
-    steps-counted e =
-        let listed = (rw e at h) .buffers .1 in
-        omega (
-          arith,
-          listed .2,
-          steps-few (stands .sound) (listed .1),
-          mul-le-mul {n₁ = s .classes} {m₁ = s .classes} {n₂ = 128} {m₂ = 128} (stands .few) (stands .few),
-        )
+          go : {k : ℕ} → k ≢ 8 → k ≢ 0 → First (hierarchyRefusals s t heads steps) k → ⊥
+          go ne nz (inl (some, e)) = omega (arith, ready .none-open)
+          go ne nz (inr (_, inl (short, e))) = ne e
+          go ne nz (inr (_, inr (_, e))) = nz e
 
-    -- the lines of what was written say what they should
-    pub settled-put :
-        {count behind end : ℕ} {text₁ text₂ : List ℕ} → w ≡ Count count
-        → LinesPut (s .classes) (classLines 0 (take (s .classes) heads′)) at text behind text₁
-        → LinesPut count (stepLines (pairsIn count steps′)) behind text₁ end text₂ → SettledPut (s .classes) t at text end text₂
-    settled-put {count} {behind} {end} {text₁} {text₂} e classes listed =
-        let (found, (l, is, long, wrote)) = (rw e at h) .buffers in
-        let same-heads : take (s .classes) heads′ ≡ found .0 =
-        ap (λ (u : List ℕ). take (s .classes) u) (found .2) ∙ take-at (found .0) _ (s .classes) (found .1 .size)
-        in
-        let same-steps : pairsIn count steps′ ≡ l =
-        ap (λ (u : List ℕ). pairsIn count u) wrote ∙ ap (λ (k : ℕ). pairsIn k (over (bytesOf l) steps)) long ∙ pairs-back l _
-        in
-        record {
-          heads = found .0;
-          steps = l;
-          heads-of = found .1;
-          steps-of = is;
-          put = put-then (rw same-heads at (classes .put)) (rw same-steps at (listed .put));
-        }
+      -- what was written: heads and steps
+      written :
+          {count : ℕ} → w ≡ Count count
+          → (hs : List ℕ) × (l : List Pair) × HeadsOf (s .classes) t hs × StepsOf (s .classes) t l × (count ≡ length l)
+          × (heads′ ≡ over hs heads) × (steps′ ≡ over (bytesOf l) steps)
+      written {count} e =
+          let (hs, l, found, listed, same) = (rw e at h) .done refl in
+          let counted = ap (λ (o : Counted × (List ℕ × List ℕ)). o .0) same in (
+            hs,
+            l,
+            found,
+            listed,
+            cc,
+            ap (λ (o : Counted × (List ℕ × List ℕ)). o .1 .0) same,
+            ap (λ (o : Counted × (List ℕ × List ℕ)). o .1 .1) same,
+          )
 
--- the table of an accepted book has its shape
-pub ready-shape :
-    {r : Reply} {t heads steps text : List ℕ} → Reportable r t heads steps text → r .number ≡ 0 → Shape (r .session .classes) t
-ready-shape {r} ready accepted =
-    let st = standing-passed [] (ready .stands accepted) .0 in
-    record { few = st .few; room = st .room }
+      -- the steps that were counted are few
+      pub steps-counted : {count : ℕ} → w ≡ Count count → count ≤ 4096
+      steps-counted e =
+          let (hs, l, found, listed, long, same-heads, same-steps) = written e in
+          omega (
+            arith,
+            steps-few (stands .sound) listed,
+            mul-le-mul {n₁ = s .classes} {m₁ = s .classes} {n₂ = 128} {m₂ = 128} (stands .few) (stands .few),
+          )
 
--- and its counts are short, for they are below 100,000
+      -- the lines of what was written say what they should
+      pub settled-put :
+          {count behind end : ℕ} {text₁ text₂ : List ℕ} → w ≡ Count count
+          → LinesPut (s .classes) (classLines 0 (take (s .classes) heads′)) at text behind text₁
+          → LinesPut count (stepLines (pairsIn count steps′)) behind text₁ end text₂
+          → SettledPut (s .classes) t at text end text₂
+      settled-put {count} {behind} {end} {text₁} {text₂} e classes put =
+          let (hs, l, found, listed, long, written-heads, written-steps) = written e in
+          let same-heads : take (s .classes) heads′ ≡ hs =
+          ap (λ (u : List ℕ). take (s .classes) u) written-heads ∙ take-at hs _ (s .classes) (found .size)
+          in
+          let same-steps : pairsIn count steps′ ≡ l =
+          ap (λ (u : List ℕ). pairsIn count u) written-steps
+          ∙ ap (λ (k : ℕ). pairsIn k (over (bytesOf l) steps)) long
+          ∙ pairs-back l _
+          in
+          record {
+            heads = hs;
+            steps = l;
+            heads-of = found;
+            steps-of = listed;
+            put = put-then (rw same-heads at (classes .put)) (rw same-steps at (put .put));
+          }
+
+-- the counts of an accepted book are short, for they are below 100,000
 pub counts-short :
     {r : Reply} {t heads steps text : List ℕ} {count : ℕ} → Reportable r t heads steps text → r .number ≡ 0
     → count ≡ opens (r .session .classes) t

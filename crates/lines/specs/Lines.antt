@@ -11,7 +11,7 @@ use Rattle.promise.specs.declared.Session.{Session}
 use Rattle.promise.specs.declared.Reply.{Reply}
 use Rattle.promise.specs.Next.{FirstOpen}
 use Rattle.promise.specs.Hierarchy.{HeadsOf, StepsOf}
-use Rattle.promise.specs.Read.{BookRead}
+use Rattle.promise.specs.Book.{BookRead}
 use Rattle.buffers.specs.Decimal.{decimal}
 
 -- the bytes of the characters that are written

@@ -5,7 +5,7 @@ use mathlib.Core.Logic.{_↔_, _⊎_, inl, inr}
 use mathlib.Core.Bool.{true}
 use mathlib.Core.List.{List}
 use Prim.Native.Nat.{ℕ, suc, _+_, _*_, _<_, _≤_}
-use native.Mathlib.Nat.{mul-le-mul, mul-le-mul-right, suc-mul}
+use native.Mathlib.Nat.{mul-le-mul-right, suc-mul}
 use native.Mathlib.Decide.{ℕ-discrete, decLt}
 use native.Mathlib.Omega.{arith}
 use borrow.Author.Tests.{eq-eqb, eqb-true}
@@ -17,10 +17,6 @@ use Rattle.order.proofs.Bytes.{pair-below}
 use Rattle.promise.specs.declared.Session.{Session}
 use Rattle.promise.proofs.Standing.{Stands}
 use Rattle.marks.specs.Shape.{Shape, IndexOf}
-
--- at most 128 * 128 marks
-pub square : (n : ℕ) → n ≤ 128 → n * n ≤ 16384
-square n h = mul-le-mul h h
 
 -- (a, b) stands before every pair of a later row
 row-lt : (n a a′ b b′ : ℕ) → a < a′ → b < n → a * n + b < a′ * n + b′

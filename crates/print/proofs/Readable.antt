@@ -13,11 +13,10 @@ use Rattle.order.proofs.Bytes.{pair-below}
 use Rattle.promise.specs.declared.Session.{Session}
 use Rattle.promise.specs.declared.Reply.{Reply}
 use Rattle.promise.specs.Refusals.{standing}
-use Rattle.promise.specs.Read.{BookRead}
-use Rattle.promise.proofs.Standing.{Stands, standing-passed, first-stands}
+use Rattle.promise.specs.Book.{BookRead}
+use Rattle.promise.proofs.Standing.{Stands, standing-passed, first-stands, square}
 use Rattle.promise.proofs.Runs.{fresh-run-stands}
 use Rattle.promise.proofs.Read.{ReadAs, read-run}
-use Rattle.marks.proofs.Shape.{square}
 use Rattle.lines.specs.Lines.{marksOf}
 
 -- the class count is at most 128

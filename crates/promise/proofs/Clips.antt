@@ -397,7 +397,7 @@ pub bytes-misfit :
 bytes-misfit s t bytes st fit =
     owed-refused (clipBytes s t bytes) (λ k. refl) (first-stands (bytesRefusals s t bytes) st (inl (fit, refl))) (λ z. omega arith)
 
-pub bytes-there : (s : Session) (t bytes : List ℕ) → (o : Reply × List ℕ) × Owed (clipBytes s t bytes) o
+unfoldable pub bytes-there : (s : Session) (t bytes : List ℕ) → (o : Reply × List ℕ) × Owed (clipBytes s t bytes) o
 bytes-there s t bytes = start (standing-there [] s t (λ st. (0, refl)))
   where
     fits : Stands s t → Dec (FlagsFit (s .classes) bytes) → (o : Reply × List ℕ) × Owed (clipBytes s t bytes) o

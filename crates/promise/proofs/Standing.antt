@@ -5,7 +5,7 @@ use mathlib.Core.Logic.{_≢_, _⊎_, inl, inr, ⊎-elim}
 use mathlib.Core.List.{List, []}
 use Prim.Native.Nat.{ℕ, suc, _+_, _*_, _-_, _≤_, _<_}
 use native.Mathlib.Decide.{ℕ-discrete, decLt, decLe}
-use native.Mathlib.Nat.{mul-le-mul-right}
+use native.Mathlib.Nat.{mul-le-mul, mul-le-mul-right}
 use native.Mathlib.Omega.{arith}
 use lib.ListN.{length}
 use Rattle.order.specs.Tables.{Sound, opens}
@@ -27,6 +27,10 @@ pub record Stands (s : Session) (t : List ℕ) : Type 0 where
 -- n is at most its square
 pub square-above : (n : ℕ) → 1 ≤ n → n ≤ n * n
 square-above n h = omega (arith, mul-le-mul-right n h)
+
+-- at most 128 * 128 marks
+pub square : (n : ℕ) → n ≤ 128 → n * n ≤ 16384
+square n h = mul-le-mul h h
 
 -- where a number is none of 1 to 4, it comes from the refusals of the call itself
 

@@ -1,62 +1,70 @@
--- Worked marks of document 01: a table of calls with what each gives, to be met by the definitions. P1 to P12 are the small proved set.
+-- Worked marks of document 01, by name: calls with all that goes in and all that comes out, to be met by the
+-- definitions. P1 to P12 are the small proved set.
 -- Assumes nothing.
-use mathlib.Core.Path.{_≡_}
 use mathlib.Core.Bool.{Bool, true, false}
 use mathlib.Core.List.{List, [], _∷_}
 use Prim.Native.Nat.{ℕ, zero, suc}
 use Rattle.order.specs.Facts.{Fact, under, notUnder}
-use Rattle.order.specs.Tables.{opens}
 use Rattle.promise.specs.declared.Session.{Session}
 use Rattle.promise.specs.declared.Reply.{Reply}
 use Rattle.promise.specs.declared.Question.{Question}
 use Rattle.promise.specs.declared.Question.the-variants.{Ask, Done}
 use Rattle.promise.specs.declared.Counted.{Counted}
 use Rattle.promise.specs.declared.Counted.the-variants.{Count, Refused}
+use Rattle.promise.specs.declared.CrossedQuestion.{CrossedQuestion}
+use Rattle.promise.specs.declared.CrossedCount.{CrossedCount}
 use Rattle.promise.specs.Sessions.{started}
-use Rattle.promise.specs.Fresh.{Freshened}
-use Rattle.promise.specs.Tell.{Kind, Took}
-use Rattle.promise.specs.Clips.{Clipped}
-use Rattle.promise.specs.Next.{Asked}
-use Rattle.promise.specs.Hierarchy.{HierarchyWritten}
-use Rattle.promise.specs.Ladder.{LadderWritten}
-use Rattle.promise.specs.Read.{BookRead}
-use Rattle.promise.specs.Write.{BookWritten}
+use Rattle.promise.specs.Tell.{Kind}
 
--- a call with all that goes in and all that comes out; or how many pairs of a table are open
-pub data Row : Type 0 where
-  fresh : (n : ℕ) (t : List ℕ) (r : Reply) (t′ : List ℕ) → Row
-  took : (kind : Kind) (s : Session) (t : List ℕ) (f : Fact) (r : Reply) (t′ : List ℕ) → Row
-  clipped : (s : Session) (t : List ℕ) (played : List Bool) (r : Reply) (t′ : List ℕ) → Row
-  next : (s : Session) (t : List ℕ) (q : Question) → Row
-  hierarchy : (s : Session) (t heads steps : List ℕ) (r : Counted) (heads′ steps′ : List ℕ) → Row
-  ladder : (s : Session) (t : List ℕ) (a b : ℕ) (out : List ℕ) (r : Counted) (out′ : List ℕ) → Row
-  read : (book t : List ℕ) (r : Reply) (t′ : List ℕ) → Row
-  write : (s : Session) (t out : List ℕ) (r : Counted) (out′ : List ℕ) → Row
-  open-pairs : (n : ℕ) (t : List ℕ) (k : ℕ) → Row
+-- a call with all that goes in
+pub data Input : Type 0 where
+  fresh : (n : ℕ) (t : List ℕ) → Input
+  tell : (kind : Kind) (s : Session) (t : List ℕ) (f : Fact) → Input
+  clip : (s : Session) (t : List ℕ) (played : List Bool) → Input
+  clipBytes : (s : Session) (t bytes : List ℕ) → Input
+  next nextForC openPairs openPairsForC : (s : Session) (t : List ℕ) → Input
+  hierarchy : (s : Session) (t heads steps : List ℕ) → Input
+  ladder ladderForC : (s : Session) (t : List ℕ) (a b : ℕ) (out : List ℕ) → Input
+  read : (book t : List ℕ) → Input
+  write : (s : Session) (t out : List ℕ) → Input
 
-abbrev pub Meets : Row → Type 0
-Meets (Row.fresh n t r t′) = Freshened n t r t′
-Meets (Row.took kind s t f r t′) = Took kind s t f r t′
-Meets (Row.clipped s t played r t′) = Clipped s t played r t′
-Meets (Row.next s t q) = Asked s t q
-Meets (Row.hierarchy s t heads steps r heads′ steps′) = HierarchyWritten s t heads steps r heads′ steps′
-Meets (Row.ladder s t a b out r out′) = LadderWritten s t a b out r out′
-Meets (Row.read book t r t′) = BookRead book t r t′
-Meets (Row.write s t out r out′) = BookWritten s t out r out′
-Meets (Row.open-pairs n t k) = opens n t ≡ k
+-- all that comes out
+abbrev pub Outcome : Input → Type 0
+Outcome (Input.fresh n t) = Reply × List ℕ
+Outcome (Input.tell kind s t f) = Reply × List ℕ
+Outcome (Input.clip s t played) = Reply × List ℕ
+Outcome (Input.clipBytes s t bytes) = Reply × List ℕ
+Outcome (Input.next s t) = Question
+Outcome (Input.nextForC s t) = CrossedQuestion
+Outcome (Input.openPairs s t) = Counted
+Outcome (Input.openPairsForC s t) = CrossedCount
+Outcome (Input.hierarchy s t heads steps) = Counted × (List ℕ × List ℕ)
+Outcome (Input.ladder s t a b out) = Counted × List ℕ
+Outcome (Input.ladderForC s t a b out) = CrossedCount × List ℕ
+Outcome (Input.read book t) = Reply × List ℕ
+Outcome (Input.write s t out) = Counted × List ℕ
 
-abbrev pub AllMeet : List Row → Type 0
-AllMeet [] = Unit {0}
-AllMeet (row ∷ later) = Meets row × AllMeet later
+-- a row of the table
+pub record Row : Type 0 where
+  pub input : Input
+  pub outcome : Outcome input
 
--- accepted, and refused with a number and a place, with the session from then on
-abbrev pub accepted : Session → Reply
-accepted s = record { number = 0; place = 0; session = s }
+infix 2 _gives_
+abbrev pub _gives_ : (i : Input) → Outcome i → Row
+i gives o = record { input = i; outcome = o }
 
-abbrev pub refused : ℕ → ℕ → Session → Reply
-refused number place s = record { number = number; place = place; session = s }
+-- What a call gives is written out, by no definition of what it owes: a reply, and the question and the count that C
+-- gets.
+abbrev pub replied : ℕ → ℕ → Session → Reply
+replied number place s = record { number = number; place = place; session = s }
 
--- "n 0 and tally 0", written out
+abbrev pub askedForC : ℕ → ℕ → Bool → ℕ → ℕ → CrossedQuestion
+askedForC number place asks a b = record { number = number; place = place; asks = asks; lower = a; upper = b }
+
+abbrev pub countedForC : ℕ → ℕ → ℕ → CrossedCount
+countedForC number place count = record { number = number; place = place; count = count }
+
+-- "n 0 and tally 0"
 abbrev pub nothing : Session
 nothing = record { classes = 0; tests = 0 }
 
@@ -89,40 +97,50 @@ p8 = 1 ∷ 1 ∷ 1 ∷ 2 ∷ 1 ∷ 1 ∷ 2 ∷ 1 ∷ 1 ∷ []
 abbrev pub p11 : List ℕ
 p11 = 1 ∷ 1 ∷ 1 ∷ 1 ∷ 2 ∷ 1 ∷ 2 ∷ 1 ∷ 2 ∷ 2 ∷ 1 ∷ 1 ∷ 2 ∷ 2 ∷ 2 ∷ 1 ∷ []
 
--- the fresh table after one fact, "0 not under 1" and "0 under 1"
+-- the fresh table after one fact, "0 not under 1", "0 under 1", "1 under 2"
 abbrev pub afterNo : List ℕ
 afterNo = 1 ∷ 2 ∷ 0 ∷ 0 ∷ 1 ∷ 0 ∷ 0 ∷ 0 ∷ 1 ∷ []
 
 abbrev pub afterYes : List ℕ
 afterYes = 1 ∷ 1 ∷ 0 ∷ 0 ∷ 1 ∷ 0 ∷ 0 ∷ 0 ∷ 1 ∷ []
 
+abbrev pub oneUnderTwo : List ℕ
+oneUnderTwo = 1 ∷ 0 ∷ 0 ∷ 0 ∷ 1 ∷ 1 ∷ 0 ∷ 0 ∷ 1 ∷ []
+
+-- not sound: 0 under 1 and 1 under 2, but (0, 2) open
+abbrev pub unsound : List ℕ
+unsound = 1 ∷ 1 ∷ 0 ∷ 0 ∷ 1 ∷ 1 ∷ 0 ∷ 0 ∷ 1 ∷ []
+
 -- the marks of 01's printed example without its last six bytes
 abbrev pub printed : List ℕ
 printed = 1 ∷ 1 ∷ 1 ∷ 0 ∷ 1 ∷ 1 ∷ 0 ∷ 1 ∷ 1 ∷ []
 
--- "1 under 2" alone; two classes of three that played a clip, and the first alone
-abbrev pub oneUnderTwo : List ℕ
-oneUnderTwo = 1 ∷ 0 ∷ 0 ∷ 0 ∷ 1 ∷ 1 ∷ 0 ∷ 0 ∷ 1 ∷ []
+-- two classes with one pair open
+abbrev pub oneOpen : List ℕ
+oneOpen = 1 ∷ 2 ∷ 0 ∷ 1 ∷ []
 
+-- two classes of three that played a clip, the first alone, and the first with a class of n or more
 abbrev pub firstTwo : List Bool
 firstTwo = true ∷ true ∷ false ∷ []
 
 abbrev pub firstOne : List Bool
 firstOne = true ∷ false ∷ false ∷ []
 
--- buffers before a call
+abbrev pub firstAndFourth : List Bool
+firstAndFourth = true ∷ false ∷ false ∷ true ∷ []
+
+-- k times one byte; buffers before a call
+abbrev pub times : ℕ → ℕ → List ℕ
+times zero byte = []
+times (suc k) byte = byte ∷ times k byte
+
 abbrev pub nines : ℕ → List ℕ
-nines zero = []
-nines (suc k) = 9 ∷ nines k
+nines k = times k 9
 
 -- k fields of tag 2 and length 0 before the rest of a book
 abbrev pub emptyFields : ℕ → List ℕ → List ℕ
 emptyFields zero rest = rest
 emptyFields (suc k) rest = 2 ∷ 0 ∷ 0 ∷ emptyFields k rest
-
--- two classes with one pair open
-abbrev pub oneOpen : List ℕ
-oneOpen = 1 ∷ 2 ∷ 0 ∷ 1 ∷ []
 
 -- P12: P8's table as a book
 abbrev pub p12 : List ℕ
@@ -130,138 +148,226 @@ p12 =
     1 ∷ 0 ∷ 1 ∷ 3 ∷ 2 ∷ 0 ∷ 8 ∷ 0 ∷ 1 ∷ 0 ∷ 2 ∷ 1 ∷ 2 ∷ 2 ∷ 1 ∷ 3
     ∷ 0 ∷ 4 ∷ 1 ∷ 0 ∷ 2 ∷ 0 ∷ []
 
-abbrev pub rows : List Row
-rows =
-    -- P1
-    Row.fresh 1 (nines 2) (accepted (started 1)) (1 ∷ 9 ∷ [])
-    ∷ Row.next (started 1) (1 ∷ 9 ∷ []) Done
-    -- P2
-    ∷ Row.fresh 3 (nines 9) (accepted (three 0)) p2
-    ∷ Row.open-pairs 3 p2 6
-    ∷ Row.next (three 0) p2 (Ask 0 1)
-    -- P3
-    ∷ Row.took Kind.told (three 0) p2 (notUnder 0 2) (accepted (three 0)) p3
-    ∷ Row.open-pairs 3 p3 5
-    -- P4
-    ∷ Row.took Kind.told (three 0) p3 (under 0 1) (accepted (three 0)) p4
-    ∷ Row.open-pairs 3 p4 3
-    -- P5
-    ∷ Row.took Kind.told (three 0) p4 (under 1 2) (refused 6 0 (three 0)) p4
-    -- P6
-    ∷ Row.took Kind.told (three 0) p2 (under 0 1) (accepted (three 0)) afterYes
-    ∷ Row.took Kind.told (three 0) afterYes (under 1 2) (accepted (three 0)) p6
-    ∷ Row.open-pairs 3 p6 3
-    -- P7
-    ∷ Row.took Kind.told (three 0) p6 (notUnder 2 0) (accepted (three 0)) p7
-    ∷ Row.open-pairs 3 p7 2
-    ∷ Row.next (three 0) p7 (Ask 1 0)
-    -- P8
-    ∷ Row.took Kind.told (three 0) p7 (under 2 1) (accepted (three 0)) p8
-    ∷ Row.next (three 0) p8 Done
-    ∷ Row.hierarchy (three 0) p8 (nines 4) (nines 3) (Count 1) (0 ∷ 1 ∷ 1 ∷ 9 ∷ []) (0 ∷ 1 ∷ 9 ∷ [])
-    -- P9
-    ∷ Row.took Kind.told (three 0) p2 (notUnder 1 1) (refused 6 0 (three 0)) p2
-    -- P10
-    ∷ Row.took Kind.answered (three 0) p2 (under 1 1) (accepted (three 0)) p2
-    -- P11
-    ∷ Row.read (1 ∷ 0 ∷ 1 ∷ 4 ∷ 2 ∷ 0 ∷ 8 ∷ 0 ∷ 1 ∷ 0 ∷ 2 ∷ 1 ∷ 3 ∷ 2 ∷ 3 ∷ 3 ∷ 0 ∷ 4 ∷ 1 ∷ 2 ∷ 2 ∷ 1 ∷ []) (nines 16) (accepted four) p11
-    ∷ Row.hierarchy four p11 (nines 4) (nines 8) (Count 4) (0 ∷ 1 ∷ 2 ∷ 3 ∷ []) (0 ∷ 1 ∷ 0 ∷ 2 ∷ 1 ∷ 3 ∷ 2 ∷ 3 ∷ [])
-    ∷ Row.ladder four p11 0 3 (nines 3) (Count 3) (0 ∷ 1 ∷ 3 ∷ [])
-    ∷ Row.ladder four p11 1 2 (nines 3) (Refused 9 0) (nines 3)
-    -- P12
-    ∷ Row.write (three 0) p8 (nines 22) (Count 22) p12
-    ∷ Row.read p12 (nines 9) (accepted (three 0)) p8
-    -- an answer counts on an open pair, not on a settled one
-    ∷ Row.took Kind.answered (three 0) p7 (under 2 1) (accepted (three 1)) p8
-    ∷ Row.took Kind.answered (three 1) p8 (under 0 2) (accepted (three 1)) p8
-    -- class counts and tables
-    ∷ Row.fresh 0 (nines 1) (refused 1 0 nothing) (nines 1)
-    ∷ Row.fresh 129 (nines 1) (refused 1 0 nothing) (nines 1)
-    ∷ Row.fresh 3 (nines 8) (refused 2 0 nothing) (nines 8)
-    ∷ Row.next (started 0) [] (Question.Refused 1 0)
-    ∷ Row.next (three 0) (nines 8) (Question.Refused 2 0)
-    ∷ Row.next (three 0) (1 ∷ 1 ∷ 0 ∷ 0 ∷ 1 ∷ 1 ∷ 0 ∷ 0 ∷ 1 ∷ []) (Question.Refused 3 0)
-    ∷ Row.next (three 0) (1 ∷ 3 ∷ 0 ∷ 0 ∷ 1 ∷ 0 ∷ 0 ∷ 0 ∷ 1 ∷ []) (Question.Refused 3 0)
-    ∷ Row.next (three 1) p2 (Question.Refused 4 0)
-    ∷ Row.next (three 6) p8 Done
-    ∷ Row.took Kind.told (three 0) p4 (under 0 5) (refused 5 0 (three 0)) p4
-    -- buffers that just fit, and one byte less; the order of refusals
-    ∷ Row.hierarchy four p11 (nines 4) (nines 7) (Refused 8 0) (nines 4) (nines 7)
-    ∷ Row.hierarchy four p11 (nines 3) (nines 8) (Refused 8 0) (nines 3) (nines 8)
-    ∷ Row.hierarchy (three 0) p7 [] [] (Refused 7 0) [] []
-    ∷ Row.ladder four p11 0 3 (nines 2) (Refused 8 0) (nines 2)
-    ∷ Row.ladder (three 0) p8 2 1 (nines 2) (Count 1) (1 ∷ 9 ∷ [])
-    ∷ Row.ladder (three 0) p7 3 0 [] (Refused 5 0) []
-    ∷ Row.ladder (three 0) p7 2 0 [] (Refused 7 0) []
-    ∷ Row.write (three 0) p8 (nines 21) (Refused 8 0) (nines 21)
-    ∷ Row.write (started 1) (1 ∷ []) (nines 11) (Count 10) (1 ∷ 0 ∷ 1 ∷ 1 ∷ 2 ∷ 0 ∷ 0 ∷ 3 ∷ 0 ∷ 0 ∷ 9 ∷ [])
-    -- 01's printed example, whole and without its last six bytes
-    ∷ Row.read (1 ∷ 0 ∷ 1 ∷ 3 ∷ 2 ∷ 0 ∷ 6 ∷ 0 ∷ 1 ∷ 1 ∷ 2 ∷ 2 ∷ 1 ∷ 4 ∷ 0 ∷ 3 ∷ 1 ∷ 0 ∷ 0 ∷ []) (nines 9) (accepted (three 1)) p8
-    ∷ Row.read (1 ∷ 0 ∷ 1 ∷ 3 ∷ 2 ∷ 0 ∷ 6 ∷ 0 ∷ 1 ∷ 1 ∷ 2 ∷ 2 ∷ 1 ∷ []) (nines 9) (accepted (three 0)) printed
-    ∷ Row.open-pairs 3 printed 2
-    ∷ Row.next (three 0) printed (Ask 1 0)
-    -- books refused at their first field
-    ∷ Row.read [] (nines 9) (refused 12 0 nothing) (nines 9)
-    ∷ Row.read (1 ∷ 0 ∷ []) (nines 9) (refused 10 0 nothing) (nines 9)
-    ∷ Row.read (7 ∷ []) (nines 9) (refused 10 0 nothing) (nines 9)
-    ∷ Row.read (7 ∷ 0 ∷ 0 ∷ []) (nines 9) (refused 11 0 nothing) (nines 9)
-    ∷ Row.read (2 ∷ 0 ∷ 0 ∷ []) (nines 9) (refused 12 0 nothing) (nines 9)
-    ∷ Row.read (2 ∷ 0 ∷ 3 ∷ []) (nines 9) (refused 12 0 nothing) (nines 9)
-    ∷ Row.read (1 ∷ 0 ∷ 2 ∷ 3 ∷ 3 ∷ []) (nines 9) (refused 13 0 nothing) (nines 9)
-    ∷ Row.read (1 ∷ 0 ∷ 5 ∷ []) (nines 9) (refused 13 0 nothing) (nines 9)
-    ∷ Row.read (1 ∷ 0 ∷ 0 ∷ []) (nines 9) (refused 13 0 nothing) (nines 9)
-    ∷ Row.read (1 ∷ 0 ∷ 1 ∷ []) (nines 9) (refused 10 0 nothing) (nines 9)
-    ∷ Row.read (1 ∷ 0 ∷ 1 ∷ 0 ∷ []) (nines 9) (refused 1 0 nothing) (nines 9)
-    ∷ Row.read (1 ∷ 0 ∷ 1 ∷ 129 ∷ []) (nines 9) (refused 1 0 nothing) (nines 9)
-    ∷ Row.read (1 ∷ 0 ∷ 1 ∷ 3 ∷ []) (nines 8) (refused 2 0 nothing) (nines 8)
-    -- books refused later: what was read before the place stays
-    ∷ Row.read (1 ∷ 0 ∷ 1 ∷ 3 ∷ []) (nines 9) (accepted (three 0)) p2
-    ∷ Row.read (1 ∷ 0 ∷ 1 ∷ 3 ∷ 1 ∷ []) (nines 9) (refused 10 4 (three 0)) p2
-    ∷ Row.read (1 ∷ 0 ∷ 1 ∷ 3 ∷ 9 ∷ 0 ∷ 0 ∷ []) (nines 9) (refused 11 4 (three 0)) p2
-    ∷ Row.read (1 ∷ 0 ∷ 1 ∷ 3 ∷ 1 ∷ 0 ∷ 7 ∷ []) (nines 9) (refused 12 4 (three 0)) p2
-    ∷ Row.read (1 ∷ 0 ∷ 1 ∷ 3 ∷ 4 ∷ 0 ∷ 2 ∷ 0 ∷ 1 ∷ []) (nines 9) (refused 13 4 (three 0)) p2
-    ∷ Row.read (1 ∷ 0 ∷ 1 ∷ 3 ∷ 2 ∷ 0 ∷ 5 ∷ 0 ∷ []) (nines 9) (refused 13 4 (three 0)) p2
-    ∷ Row.read (1 ∷ 0 ∷ 1 ∷ 3 ∷ 2 ∷ 0 ∷ 4 ∷ 0 ∷ 1 ∷ 1 ∷ []) (nines 9) (refused 10 4 (three 0)) p2
-    ∷ Row.read (1 ∷ 0 ∷ 1 ∷ 3 ∷ 4 ∷ 0 ∷ 3 ∷ 1 ∷ 0 ∷ 2 ∷ []) (nines 9) (refused 14 7 (three 0)) p2
-    ∷ Row.read (1 ∷ 0 ∷ 1 ∷ 3 ∷ 4 ∷ 0 ∷ 3 ∷ 3 ∷ 0 ∷ 2 ∷ []) (nines 9) (refused 14 7 (three 0)) p2
-    ∷ Row.read (1 ∷ 0 ∷ 1 ∷ 3 ∷ 4 ∷ 0 ∷ 6 ∷ 3 ∷ 0 ∷ 1 ∷ 0 ∷ 1 ∷ 2 ∷ []) (nines 9) (refused 5 7 (three 0)) p2
-    ∷ Row.read (1 ∷ 0 ∷ 1 ∷ 3 ∷ 4 ∷ 0 ∷ 6 ∷ 0 ∷ 1 ∷ 0 ∷ 0 ∷ 1 ∷ 2 ∷ []) (nines 9) (refused 14 10 (three 1)) afterNo
-    ∷ Row.read (1 ∷ 0 ∷ 1 ∷ 3 ∷ 3 ∷ 0 ∷ 2 ∷ 0 ∷ 1 ∷ 2 ∷ 0 ∷ 2 ∷ 0 ∷ 1 ∷ []) (nines 9) (refused 6 12 (three 0)) afterNo
-    -- tags that are none, lengths of each tag, a field after many
-    ∷ Row.read (0 ∷ 0 ∷ 0 ∷ []) (nines 9) (refused 11 0 nothing) (nines 9)
-    ∷ Row.read (1 ∷ 0 ∷ 1 ∷ 3 ∷ 0 ∷ 0 ∷ 0 ∷ []) (nines 9) (refused 11 4 (three 0)) p2
-    ∷ Row.read (1 ∷ 0 ∷ 1 ∷ 3 ∷ 5 ∷ 0 ∷ 0 ∷ []) (nines 9) (refused 11 4 (three 0)) p2
-    ∷ Row.read (1 ∷ 0 ∷ 1 ∷ 3 ∷ 2 ∷ 0 ∷ []) (nines 9) (refused 10 4 (three 0)) p2
-    ∷ Row.read (1 ∷ 0 ∷ 1 ∷ 3 ∷ 3 ∷ 0 ∷ 1 ∷ 0 ∷ []) (nines 9) (refused 13 4 (three 0)) p2
-    ∷ Row.read (1 ∷ 0 ∷ 1 ∷ 3 ∷ 4 ∷ 0 ∷ 0 ∷ []) (nines 9) (accepted (three 0)) p2
-    ∷ Row.read (1 ∷ 0 ∷ 1 ∷ 3 ∷ 4 ∷ 0 ∷ 9 ∷ 0 ∷ 1 ∷ 1 ∷ 0 ∷ 2 ∷ 0 ∷ 1 ∷ 1 ∷ 1 ∷ []) (nines 9) (accepted (three 2)) p4
-    ∷ Row.read (1 ∷ 0 ∷ 1 ∷ 1 ∷ emptyFields 21 (9 ∷ 0 ∷ 0 ∷ [])) (nines 1) (refused 11 67 (started 1)) (1 ∷ [])
-    -- the order of refusals outside books, and sessions given back
-    ∷ Row.took Kind.told (record { classes = 129; tests = 5 }) [] (under 0 0) (refused 1 0 (record { classes = 129; tests = 5 })) []
-    ∷ Row.next (three 7) (1 ∷ 1 ∷ 0 ∷ 0 ∷ 1 ∷ 1 ∷ 0 ∷ 0 ∷ 1 ∷ []) (Question.Refused 3 0)
-    ∷ Row.took Kind.told (three 1) p2 (under 0 3) (refused 4 0 (three 1)) p2
-    ∷ Row.took Kind.told (three 0) p2 (under 3 0) (refused 5 0 (three 0)) p2
-    ∷ Row.took Kind.answered (three 0) p4 (under 1 2) (refused 6 0 (three 0)) p4
-    ∷ Row.took Kind.answered (three 0) p3 (under 0 1) (accepted (three 1)) p4
-    ∷ Row.hierarchy (started 2) oneOpen (nines 2) (nines 2) (Refused 7 0) (nines 2) (nines 2)
-    ∷ Row.ladder (started 2) oneOpen 0 0 (nines 2) (Refused 7 0) (nines 2)
-    ∷ Row.ladder four p11 0 2 (nines 2) (Count 2) (0 ∷ 2 ∷ [])
-    -- clips: the pairs of a member and a non-member, and no other; not counted
-    ∷ Row.clipped (three 0) afterYes firstTwo (accepted (three 0)) p4
-    ∷ Row.clipped (three 0) afterYes (false ∷ true ∷ []) (accepted (three 0)) (1 ∷ 1 ∷ 0 ∷ 2 ∷ 1 ∷ 2 ∷ 0 ∷ 0 ∷ 1 ∷ [])
-    ∷ Row.clipped (three 0) p2 firstOne (accepted (three 0)) (1 ∷ 2 ∷ 2 ∷ 0 ∷ 1 ∷ 0 ∷ 0 ∷ 0 ∷ 1 ∷ [])
-    ∷ Row.clipped (three 0) (1 ∷ 0 ∷ 0 ∷ 0 ∷ 1 ∷ 0 ∷ 0 ∷ 0 ∷ 1 ∷ 9 ∷ []) firstTwo (accepted (three 0)) (1 ∷ 0 ∷ 2 ∷ 0 ∷ 1 ∷ 2 ∷ 0 ∷ 0 ∷ 1 ∷ 9 ∷ [])
-    -- the clips of no class and of all
-    ∷ Row.clipped (three 0) afterYes [] (accepted (three 0)) afterYes
-    ∷ Row.clipped (three 0) afterYes (true ∷ true ∷ true ∷ []) (accepted (three 0)) afterYes
-    -- one no contradicts: the first, and a later one, when those before it are not written
-    ∷ Row.clipped (three 0) afterYes firstOne (refused 6 0 (three 0)) afterYes
-    ∷ Row.clipped (three 0) oneUnderTwo firstTwo (refused 6 0 (three 0)) oneUnderTwo
-    -- a class of n or more, and the order of refusals
-    ∷ Row.clipped (three 0) afterYes (true ∷ true ∷ false ∷ true ∷ []) (refused 5 0 (three 0)) afterYes
-    ∷ Row.clipped (three 0) afterYes (true ∷ false ∷ false ∷ true ∷ []) (refused 5 0 (three 0)) afterYes
-    ∷ Row.clipped (three 1) p2 (true ∷ false ∷ false ∷ true ∷ []) (refused 4 0 (three 1)) p2
-    ∷ Row.clipped (three 1) (1 ∷ 1 ∷ 0 ∷ 0 ∷ 1 ∷ 1 ∷ 0 ∷ 0 ∷ 1 ∷ []) firstOne (refused 3 0 (three 1)) (1 ∷ 1 ∷ 0 ∷ 0 ∷ 1 ∷ 1 ∷ 0 ∷ 0 ∷ 1 ∷ [])
-    ∷ Row.clipped (three 1) (nines 8) firstOne (refused 2 0 (three 1)) (nines 8)
-    ∷ Row.clipped (started 129) [] (true ∷ []) (refused 1 0 (started 129)) []
-    ∷ []
+-- 01's printed example
+abbrev pub example : List ℕ
+example = 1 ∷ 0 ∷ 1 ∷ 3 ∷ 2 ∷ 0 ∷ 6 ∷ 0 ∷ 1 ∷ 1 ∷ 2 ∷ 2 ∷ 1 ∷ 4 ∷ 0 ∷ 3 ∷ 1 ∷ 0 ∷ 0 ∷ []
+
+-- a book read to nine bytes, and one that begins with three classes; no class count was accepted, and the bytes stay
+abbrev pub book : List ℕ → Input
+book bytes = Input.read bytes (nines 9)
+
+abbrev pub bookOfThree : List ℕ → Input
+bookOfThree bytes = book (1 ∷ 0 ∷ 1 ∷ 3 ∷ bytes)
+
+abbrev pub unbegun : ℕ → Reply × List ℕ
+unbegun number = (replied number 0 nothing, nines 9)
+
+-- the names of the rows; where one ends in -first, a later refusal is due as well
+pub data Mark : Type 0 where
+  P1-fresh P1-done : Mark
+  P2-fresh P2-open P2-asks : Mark
+  P3-told P3-open : Mark
+  P4-told P4-open : Mark
+  P5-refused : Mark
+  P6-first-told P6-told P6-open : Mark
+  P7-told P7-open P7-asks : Mark
+  P8-told P8-open P8-done P8-hierarchy : Mark
+  P9-refused : Mark
+  P10-answered : Mark
+  P11-read P11-hierarchy P11-ladder P11-not-under : Mark
+  P12-written P12-read : Mark
+  answer-open answer-settled answer-draws answer-refused : Mark
+  fresh-no-class fresh-129-classes fresh-short-table next-no-class next-short-table next-not-sound next-no-mark : Mark
+  next-not-sound-first next-overcounted next-all-tested open-no-class open-short-table open-not-sound : Mark
+  open-overcounted tell-129-classes tell-overcounted-first tell-lower-beyond tell-upper-beyond : Mark
+  hierarchy-short-steps hierarchy-short-heads hierarchy-open-first hierarchy-open ladder-short ladder-fits : Mark
+  ladder-equal ladder-beyond-first ladder-open-first ladder-open write-short write-one-class : Mark
+  example-read example-cut-read example-cut-open example-cut-asks : Mark
+  book-empty book-cut-head book-cut-head-first book-unknown-tag book-tag-zero book-misplaced : Mark
+  book-misplaced-first book-two-counts book-length-first book-no-count book-cut-contents book-no-class : Mark
+  book-129-classes book-short-table : Mark
+  book-count-alone later-cut-head later-cut-length later-unknown-tag later-tag-zero later-tag-five : Mark
+  later-second-count later-yes-length later-no-length later-answers-length later-cut-contents later-verdict : Mark
+  later-verdict-first later-class-beyond later-second-verdict later-contradicts later-far : Mark
+  book-no-answers book-answers : Mark
+  clip-of-two clip-of-second clip-of-one clip-rest-kept : Mark
+  clip-of-none clip-of-all : Mark
+  clip-first-contradicts clip-later-contradicts : Mark
+  clip-beyond clip-beyond-first clip-overcounted-first clip-not-sound-first clip-short-table clip-129-classes : Mark
+  bytes-of-two bytes-more-flags bytes-too-few bytes-too-many bytes-beyond bytes-contradict : Mark
+  bytes-overcounted-first : Mark
+  C-asks C-done C-next-refused C-open C-open-refused C-ladder C-ladder-refused : Mark
+
+abbrev pub row : Mark → Row
+-- P1
+row Mark.P1-fresh = Input.fresh 1 (nines 2) gives (replied 0 0 (started 1), 1 ∷ 9 ∷ [])
+row Mark.P1-done = Input.next (started 1) (1 ∷ 9 ∷ []) gives Done
+-- P2
+row Mark.P2-fresh = Input.fresh 3 (nines 9) gives (replied 0 0 (three 0), p2)
+row Mark.P2-open = Input.openPairs (three 0) p2 gives Count 6
+row Mark.P2-asks = Input.next (three 0) p2 gives Ask 0 1
+-- P3
+row Mark.P3-told = Input.tell Kind.told (three 0) p2 (notUnder 0 2) gives (replied 0 0 (three 0), p3)
+row Mark.P3-open = Input.openPairs (three 0) p3 gives Count 5
+-- P4
+row Mark.P4-told = Input.tell Kind.told (three 0) p3 (under 0 1) gives (replied 0 0 (three 0), p4)
+row Mark.P4-open = Input.openPairs (three 0) p4 gives Count 3
+-- P5
+row Mark.P5-refused = Input.tell Kind.told (three 0) p4 (under 1 2) gives (replied 6 0 (three 0), p4)
+-- P6
+row Mark.P6-first-told = Input.tell Kind.told (three 0) p2 (under 0 1) gives (replied 0 0 (three 0), afterYes)
+row Mark.P6-told = Input.tell Kind.told (three 0) afterYes (under 1 2) gives (replied 0 0 (three 0), p6)
+row Mark.P6-open = Input.openPairs (three 0) p6 gives Count 3
+-- P7
+row Mark.P7-told = Input.tell Kind.told (three 0) p6 (notUnder 2 0) gives (replied 0 0 (three 0), p7)
+row Mark.P7-open = Input.openPairs (three 0) p7 gives Count 2
+row Mark.P7-asks = Input.next (three 0) p7 gives Ask 1 0
+-- P8
+row Mark.P8-told = Input.tell Kind.told (three 0) p7 (under 2 1) gives (replied 0 0 (three 0), p8)
+row Mark.P8-open = Input.openPairs (three 0) p8 gives Count 0
+row Mark.P8-done = Input.next (three 0) p8 gives Done
+row Mark.P8-hierarchy =
+    Input.hierarchy (three 0) p8 (nines 4) (nines 3) gives (Count 1, (0 ∷ 1 ∷ 1 ∷ 9 ∷ [], 0 ∷ 1 ∷ 9 ∷ []))
+-- P9
+row Mark.P9-refused = Input.tell Kind.told (three 0) p2 (notUnder 1 1) gives (replied 6 0 (three 0), p2)
+-- P10
+row Mark.P10-answered = Input.tell Kind.answered (three 0) p2 (under 1 1) gives (replied 0 0 (three 0), p2)
+-- P11
+row Mark.P11-read =
+    Input.read (1 ∷ 0 ∷ 1 ∷ 4 ∷ 2 ∷ 0 ∷ 8 ∷ 0 ∷ 1 ∷ 0 ∷ 2 ∷ 1 ∷ 3 ∷ 2 ∷ 3 ∷ 3 ∷ 0 ∷ 4 ∷ 1 ∷ 2 ∷ 2 ∷ 1 ∷ []) (nines 16)
+    gives (replied 0 0 four, p11)
+row Mark.P11-hierarchy =
+    Input.hierarchy four p11 (nines 4) (nines 8)
+    gives (Count 4, (0 ∷ 1 ∷ 2 ∷ 3 ∷ [], 0 ∷ 1 ∷ 0 ∷ 2 ∷ 1 ∷ 3 ∷ 2 ∷ 3 ∷ []))
+row Mark.P11-ladder = Input.ladder four p11 0 3 (nines 3) gives (Count 3, 0 ∷ 1 ∷ 3 ∷ [])
+row Mark.P11-not-under = Input.ladder four p11 1 2 (nines 3) gives (Refused 9 0, nines 3)
+-- P12
+row Mark.P12-written = Input.write (three 0) p8 (nines 22) gives (Count 22, p12)
+row Mark.P12-read = book p12 gives (replied 0 0 (three 0), p8)
+-- an answer counts on an open pair, not on a settled one, nor where it is refused
+row Mark.answer-open = Input.tell Kind.answered (three 0) p7 (under 2 1) gives (replied 0 0 (three 1), p8)
+row Mark.answer-settled = Input.tell Kind.answered (three 1) p8 (under 0 2) gives (replied 0 0 (three 1), p8)
+row Mark.answer-draws = Input.tell Kind.answered (three 0) p3 (under 0 1) gives (replied 0 0 (three 1), p4)
+row Mark.answer-refused = Input.tell Kind.answered (three 0) p4 (under 1 2) gives (replied 6 0 (three 0), p4)
+-- class counts, tables and tallies: refusals 1 to 4, each before those that follow
+row Mark.fresh-no-class = Input.fresh 0 (nines 1) gives (replied 1 0 nothing, nines 1)
+row Mark.fresh-129-classes = Input.fresh 129 (nines 1) gives (replied 1 0 nothing, nines 1)
+row Mark.fresh-short-table = Input.fresh 3 (nines 8) gives (replied 2 0 nothing, nines 8)
+row Mark.next-no-class = Input.next (started 0) [] gives Question.Refused 1 0
+row Mark.next-short-table = Input.next (three 0) (nines 8) gives Question.Refused 2 0
+row Mark.next-not-sound = Input.next (three 0) unsound gives Question.Refused 3 0
+row Mark.next-no-mark = Input.next (three 0) (1 ∷ 3 ∷ 0 ∷ 0 ∷ 1 ∷ 0 ∷ 0 ∷ 0 ∷ 1 ∷ []) gives Question.Refused 3 0
+row Mark.next-not-sound-first = Input.next (three 7) unsound gives Question.Refused 3 0
+row Mark.next-overcounted = Input.next (three 1) p2 gives Question.Refused 4 0
+row Mark.next-all-tested = Input.next (three 6) p8 gives Done
+row Mark.open-no-class = Input.openPairs (started 0) [] gives Refused 1 0
+row Mark.open-short-table = Input.openPairs (three 0) (nines 8) gives Refused 2 0
+row Mark.open-not-sound = Input.openPairs (three 0) unsound gives Refused 3 0
+row Mark.open-overcounted = Input.openPairs (three 1) p2 gives Refused 4 0
+row Mark.tell-129-classes =
+    Input.tell Kind.told (record { classes = 129; tests = 5 }) [] (under 0 0)
+    gives (replied 1 0 (record { classes = 129; tests = 5 }), [])
+row Mark.tell-overcounted-first = Input.tell Kind.told (three 1) p2 (under 0 3) gives (replied 4 0 (three 1), p2)
+row Mark.tell-lower-beyond = Input.tell Kind.told (three 0) p2 (under 3 0) gives (replied 5 0 (three 0), p2)
+row Mark.tell-upper-beyond = Input.tell Kind.told (three 0) p4 (under 0 5) gives (replied 5 0 (three 0), p4)
+-- buffers that just fit, and one byte less; the order of refusals
+row Mark.hierarchy-short-steps = Input.hierarchy four p11 (nines 4) (nines 7) gives (Refused 8 0, (nines 4, nines 7))
+row Mark.hierarchy-short-heads = Input.hierarchy four p11 (nines 3) (nines 8) gives (Refused 8 0, (nines 3, nines 8))
+row Mark.hierarchy-open-first = Input.hierarchy (three 0) p7 [] [] gives (Refused 7 0, ([], []))
+row Mark.hierarchy-open =
+    Input.hierarchy (started 2) oneOpen (nines 2) (nines 2) gives (Refused 7 0, (nines 2, nines 2))
+row Mark.ladder-short = Input.ladder four p11 0 3 (nines 2) gives (Refused 8 0, nines 2)
+row Mark.ladder-fits = Input.ladder four p11 0 2 (nines 2) gives (Count 2, 0 ∷ 2 ∷ [])
+row Mark.ladder-equal = Input.ladder (three 0) p8 2 1 (nines 2) gives (Count 1, 1 ∷ 9 ∷ [])
+row Mark.ladder-beyond-first = Input.ladder (three 0) p7 3 0 [] gives (Refused 5 0, [])
+row Mark.ladder-open-first = Input.ladder (three 0) p7 2 0 [] gives (Refused 7 0, [])
+row Mark.ladder-open = Input.ladder (started 2) oneOpen 0 0 (nines 2) gives (Refused 7 0, nines 2)
+row Mark.write-short = Input.write (three 0) p8 (nines 21) gives (Refused 8 0, nines 21)
+row Mark.write-one-class =
+    Input.write (started 1) (1 ∷ []) (nines 11) gives (Count 10, 1 ∷ 0 ∷ 1 ∷ 1 ∷ 2 ∷ 0 ∷ 0 ∷ 3 ∷ 0 ∷ 0 ∷ 9 ∷ [])
+-- 01's printed example, whole and without its last six bytes
+row Mark.example-read = book example gives (replied 0 0 (three 1), p8)
+row Mark.example-cut-read = bookOfThree (2 ∷ 0 ∷ 6 ∷ 0 ∷ 1 ∷ 1 ∷ 2 ∷ 2 ∷ 1 ∷ []) gives (replied 0 0 (three 0), printed)
+row Mark.example-cut-open = Input.openPairs (three 0) printed gives Count 2
+row Mark.example-cut-asks = Input.next (three 0) printed gives Ask 1 0
+-- books refused at their first field
+row Mark.book-empty = book [] gives unbegun 12
+row Mark.book-cut-head = book (1 ∷ 0 ∷ []) gives unbegun 10
+row Mark.book-cut-head-first = book (7 ∷ []) gives unbegun 10
+row Mark.book-unknown-tag = book (7 ∷ 0 ∷ 0 ∷ []) gives unbegun 11
+row Mark.book-tag-zero = book (0 ∷ 0 ∷ 0 ∷ []) gives unbegun 11
+row Mark.book-misplaced = book (2 ∷ 0 ∷ 0 ∷ []) gives unbegun 12
+row Mark.book-misplaced-first = book (2 ∷ 0 ∷ 3 ∷ []) gives unbegun 12
+row Mark.book-two-counts = book (1 ∷ 0 ∷ 2 ∷ 3 ∷ 3 ∷ []) gives unbegun 13
+row Mark.book-length-first = book (1 ∷ 0 ∷ 5 ∷ []) gives unbegun 13
+row Mark.book-no-count = book (1 ∷ 0 ∷ 0 ∷ []) gives unbegun 13
+row Mark.book-cut-contents = book (1 ∷ 0 ∷ 1 ∷ []) gives unbegun 10
+row Mark.book-no-class = book (1 ∷ 0 ∷ 1 ∷ 0 ∷ []) gives unbegun 1
+row Mark.book-129-classes = book (1 ∷ 0 ∷ 1 ∷ 129 ∷ []) gives unbegun 1
+row Mark.book-short-table = Input.read (1 ∷ 0 ∷ 1 ∷ 3 ∷ []) (nines 8) gives (replied 2 0 nothing, nines 8)
+-- books refused later: what was read before the place stays
+row Mark.book-count-alone = bookOfThree [] gives (replied 0 0 (three 0), p2)
+row Mark.later-cut-head = bookOfThree (1 ∷ []) gives (replied 10 4 (three 0), p2)
+row Mark.later-cut-length = bookOfThree (2 ∷ 0 ∷ []) gives (replied 10 4 (three 0), p2)
+row Mark.later-unknown-tag = bookOfThree (9 ∷ 0 ∷ 0 ∷ []) gives (replied 11 4 (three 0), p2)
+row Mark.later-tag-zero = bookOfThree (0 ∷ 0 ∷ 0 ∷ []) gives (replied 11 4 (three 0), p2)
+row Mark.later-tag-five = bookOfThree (5 ∷ 0 ∷ 0 ∷ []) gives (replied 11 4 (three 0), p2)
+row Mark.later-second-count = bookOfThree (1 ∷ 0 ∷ 7 ∷ []) gives (replied 12 4 (three 0), p2)
+row Mark.later-yes-length = bookOfThree (2 ∷ 0 ∷ 5 ∷ 0 ∷ []) gives (replied 13 4 (three 0), p2)
+row Mark.later-no-length = bookOfThree (3 ∷ 0 ∷ 1 ∷ 0 ∷ []) gives (replied 13 4 (three 0), p2)
+row Mark.later-answers-length = bookOfThree (4 ∷ 0 ∷ 2 ∷ 0 ∷ 1 ∷ []) gives (replied 13 4 (three 0), p2)
+row Mark.later-cut-contents = bookOfThree (2 ∷ 0 ∷ 4 ∷ 0 ∷ 1 ∷ 1 ∷ []) gives (replied 10 4 (three 0), p2)
+row Mark.later-verdict = bookOfThree (4 ∷ 0 ∷ 3 ∷ 1 ∷ 0 ∷ 2 ∷ []) gives (replied 14 7 (three 0), p2)
+row Mark.later-verdict-first = bookOfThree (4 ∷ 0 ∷ 3 ∷ 3 ∷ 0 ∷ 2 ∷ []) gives (replied 14 7 (three 0), p2)
+row Mark.later-class-beyond = bookOfThree (4 ∷ 0 ∷ 6 ∷ 3 ∷ 0 ∷ 1 ∷ 0 ∷ 1 ∷ 2 ∷ []) gives (replied 5 7 (three 0), p2)
+row Mark.later-second-verdict =
+    bookOfThree (4 ∷ 0 ∷ 6 ∷ 0 ∷ 1 ∷ 0 ∷ 0 ∷ 1 ∷ 2 ∷ []) gives (replied 14 10 (three 1), afterNo)
+row Mark.later-contradicts =
+    bookOfThree (3 ∷ 0 ∷ 2 ∷ 0 ∷ 1 ∷ 2 ∷ 0 ∷ 2 ∷ 0 ∷ 1 ∷ []) gives (replied 6 12 (three 0), afterNo)
+row Mark.later-far =
+    Input.read (1 ∷ 0 ∷ 1 ∷ 1 ∷ emptyFields 21 (9 ∷ 0 ∷ 0 ∷ [])) (nines 1) gives (replied 11 67 (started 1), 1 ∷ [])
+-- fields of answers: none, and three of which one is on a settled pair
+row Mark.book-no-answers = bookOfThree (4 ∷ 0 ∷ 0 ∷ []) gives (replied 0 0 (three 0), p2)
+row Mark.book-answers =
+    bookOfThree (4 ∷ 0 ∷ 9 ∷ 0 ∷ 1 ∷ 1 ∷ 0 ∷ 2 ∷ 0 ∷ 1 ∷ 1 ∷ 1 ∷ []) gives (replied 0 0 (three 2), p4)
+-- clips: the pairs of a member and a non-member, and no other; not counted
+row Mark.clip-of-two = Input.clip (three 0) afterYes firstTwo gives (replied 0 0 (three 0), p4)
+row Mark.clip-of-second =
+    Input.clip (three 0) afterYes (false ∷ true ∷ [])
+    gives (replied 0 0 (three 0), 1 ∷ 1 ∷ 0 ∷ 2 ∷ 1 ∷ 2 ∷ 0 ∷ 0 ∷ 1 ∷ [])
+row Mark.clip-of-one =
+    Input.clip (three 0) p2 firstOne gives (replied 0 0 (three 0), 1 ∷ 2 ∷ 2 ∷ 0 ∷ 1 ∷ 0 ∷ 0 ∷ 0 ∷ 1 ∷ [])
+row Mark.clip-rest-kept =
+    Input.clip (three 0) (1 ∷ 0 ∷ 0 ∷ 0 ∷ 1 ∷ 0 ∷ 0 ∷ 0 ∷ 1 ∷ 9 ∷ []) firstTwo
+    gives (replied 0 0 (three 0), 1 ∷ 0 ∷ 2 ∷ 0 ∷ 1 ∷ 2 ∷ 0 ∷ 0 ∷ 1 ∷ 9 ∷ [])
+-- the clips of no class and of all
+row Mark.clip-of-none = Input.clip (three 0) afterYes [] gives (replied 0 0 (three 0), afterYes)
+row Mark.clip-of-all = Input.clip (three 0) afterYes (true ∷ true ∷ true ∷ []) gives (replied 0 0 (three 0), afterYes)
+-- one no contradicts: the first, and a later one, when those before it are not written
+row Mark.clip-first-contradicts = Input.clip (three 0) afterYes firstOne gives (replied 6 0 (three 0), afterYes)
+row Mark.clip-later-contradicts = Input.clip (three 0) oneUnderTwo firstTwo gives (replied 6 0 (three 0), oneUnderTwo)
+-- a class of n or more, and the order of refusals
+row Mark.clip-beyond =
+    Input.clip (three 0) afterYes (true ∷ true ∷ false ∷ true ∷ []) gives (replied 5 0 (three 0), afterYes)
+row Mark.clip-beyond-first = Input.clip (three 0) afterYes firstAndFourth gives (replied 5 0 (three 0), afterYes)
+row Mark.clip-overcounted-first = Input.clip (three 1) p2 firstAndFourth gives (replied 4 0 (three 1), p2)
+row Mark.clip-not-sound-first = Input.clip (three 1) unsound firstOne gives (replied 3 0 (three 1), unsound)
+row Mark.clip-short-table = Input.clip (three 1) (nines 8) firstOne gives (replied 2 0 (three 1), nines 8)
+row Mark.clip-129-classes = Input.clip (started 129) [] (true ∷ []) gives (replied 1 0 (started 129), [])
+-- a clip with a byte a flag: a byte that is not 0 is a flag that is set; a flag for each class, and none of 128 or more
+row Mark.bytes-of-two = Input.clipBytes (three 0) afterYes (1 ∷ 7 ∷ 0 ∷ []) gives (replied 0 0 (three 0), p4)
+row Mark.bytes-more-flags = Input.clipBytes (three 0) afterYes (1 ∷ 7 ∷ 0 ∷ 0 ∷ []) gives (replied 0 0 (three 0), p4)
+row Mark.bytes-too-few = Input.clipBytes (three 0) afterYes (1 ∷ 1 ∷ []) gives (replied 5 0 (three 0), afterYes)
+row Mark.bytes-too-many =
+    Input.clipBytes (three 0) afterYes (1 ∷ 1 ∷ times 127 0) gives (replied 5 0 (three 0), afterYes)
+row Mark.bytes-beyond = Input.clipBytes (three 0) afterYes (1 ∷ 1 ∷ 0 ∷ 1 ∷ []) gives (replied 5 0 (three 0), afterYes)
+row Mark.bytes-contradict = Input.clipBytes (three 0) afterYes (1 ∷ 0 ∷ 0 ∷ []) gives (replied 6 0 (three 0), afterYes)
+row Mark.bytes-overcounted-first = Input.clipBytes (three 1) p2 (1 ∷ []) gives (replied 4 0 (three 1), p2)
+-- what C sees
+row Mark.C-asks = Input.nextForC (three 0) p7 gives askedForC 0 0 true 1 0
+row Mark.C-done = Input.nextForC (three 0) p8 gives askedForC 0 0 false 0 0
+row Mark.C-next-refused = Input.nextForC (three 1) p2 gives askedForC 4 0 false 0 0
+row Mark.C-open = Input.openPairsForC (three 0) p7 gives countedForC 0 0 2
+row Mark.C-open-refused = Input.openPairsForC (three 0) unsound gives countedForC 3 0 0
+row Mark.C-ladder = Input.ladderForC four p11 0 3 (nines 4) gives (countedForC 0 0 3, 0 ∷ 1 ∷ 3 ∷ 9 ∷ [])
+row Mark.C-ladder-refused = Input.ladderForC four p11 0 3 (nines 2) gives (countedForC 8 0 0, nines 2)

@@ -1,83 +1,207 @@
 -- The table of worked marks is met: each row is what the definitions compute.
 -- Assumes nothing.
 use mathlib.Core.Path.{_≡_, refl, subst}
-use mathlib.Core.List.{List, [], _∷_}
-use Prim.Native.Nat.{ℕ, zero, suc}
 use native.Mathlib.Decide.{ℕ-discrete, decLt, decLe}
-use Rattle.order.specs.Tables.{mark, opensTo, opens}
-use Rattle.order.proofs.Decide.{both, either, implies, negated, as-well, all-below, some-below, all-pairs, least, least-from}
+use Rattle.order.specs.Tables.{mark, opensTo}
+use Rattle.order.proofs.Decide.{both, either, implies, negated, as-well, all-below, some-below, all-pairs}
+use Rattle.order.proofs.Decide.{least, least-from}
 use Rattle.order.proofs.Refusals.{stage}
 use Rattle.order.proofs.Sound.{is, sound?, transitive?, pruned?}
 use Rattle.order.proofs.Taking.{yes-after-yes?, no-after-yes?, no-after-no?}
 use Rattle.order.proofs.Pairs.{rowTo, rowsTo}
+use Rattle.promise.specs.Calls.{Owed}
+use Rattle.promise.specs.Tell.{fresh, tell}
+use Rattle.promise.specs.Clips.{clip, clipBytes}
+use Rattle.promise.specs.Next.{next, nextForC}
+use Rattle.promise.specs.Counts.{openPairs, countForC, writesForC}
+use Rattle.promise.specs.Hierarchy.{hierarchy, ladder}
+use Rattle.promise.specs.Book.{rowOf, factsFrom, itemsFrom, BookRead}
+use Rattle.promise.specs.Write.{write}
 use Rattle.promise.proofs.Flags.{set?, flagged?}
 use Rattle.promise.proofs.Standing.{standing-there}
-use Rattle.promise.proofs.Replies.{replies-there}
-use Rattle.promise.specs.Book.{fieldFault, tellsFrom, answersFrom, itemsFrom}
-use Rattle.promise.proofs.Buffers.{too-short?, writes-there}
+use Rattle.promise.proofs.Calls.{owed-there, changes-there, crossing-there}
 use Rattle.promise.proofs.Fresh.{fresh-there}
 use Rattle.promise.proofs.Tell.{tell-there}
-use Rattle.promise.proofs.Clips.{beyond?, clip-contradicts?, clipped-no?, clip-there}
-use Rattle.promise.proofs.Next.{next-there, first-of}
-use Rattle.promise.proofs.Hierarchy.{under?, equal?, head-of?, head?, third?, direct?, head-there, list-there, heads-there, hierarchy-there}
-use Rattle.promise.proofs.Ladder.{number-there, above?, to-go, between, direct-there, rung-there, rungs-there, ladder-there, ladder-made, ladder-written-there}
-use Rattle.promise.proofs.Read.{passes-there, follows-there, read-there}
+use Rattle.promise.proofs.Clips.{beyond?, clip-contradicts?, clipped-no?, clip-there, flags-fit?, bytes-there}
+use Rattle.promise.proofs.Next.{first-of, next-there}
+use Rattle.promise.proofs.Counts.{too-short?, writes-there, open-pairs-there}
+use Rattle.promise.proofs.Crossing.{next-for-C-there, open-pairs-for-C-there, writes-for-C-there}
+use Rattle.promise.proofs.Hierarchy.{under?, equal?, head-of?, head?, third?, direct?}
+use Rattle.promise.proofs.Hierarchy.{head-there, list-there, heads-there, hierarchy-there}
+use Rattle.promise.proofs.Ladder.{number-there, above?, to-go, between, direct-there, rung-there}
+use Rattle.promise.proofs.Ladder.{rungs-there, ladder-there, ladder-made, ladder-written-there}
+use Rattle.promise.proofs.Tags.{row-there, field-there}
+use Rattle.promise.proofs.Read.{goes-there, verdict-there, made-there, follows-there, read-there}
 use Rattle.promise.proofs.Write.{off?, book-there, write-there}
-use Rattle.promise.proofs.Table.{Row, Meets, AllMeet, rows}
+use Rattle.promise.proofs.Table.{Input, Outcome, Row, Mark, row}
 
--- the row with what is there for its call
-abbrev answered : Row → Row
-answered (Row.fresh n t r t′) = let q = fresh-there n t in Row.fresh n t (q .0) (q .1)
-answered (Row.took kind s t f r t′) = let q = tell-there kind s t f in Row.took kind s t f (q .0) (q .1)
-answered (Row.clipped s t played r t′) = let q = clip-there s t played in Row.clipped s t played (q .0) (q .1)
-answered (Row.next s t q) = Row.next s t (next-there s t .0)
-answered (Row.hierarchy s t heads steps r heads′ steps′) =
-    let q = hierarchy-there s t heads steps in Row.hierarchy s t heads steps (q .0) (q .1) (q .2)
-answered (Row.ladder s t a b out r out′) =
-    let q = ladder-written-there s t a b out in Row.ladder s t a b out (q .0) (q .1)
-answered (Row.read book t r t′) = let q = read-there book t in Row.read book t (q .0) (q .1)
-answered (Row.write s t out r out′) = let q = write-there s t out in Row.write s t out (q .0) (q .1)
-answered (Row.open-pairs n t k) = Row.open-pairs n t (opens n t)
+-- an outcome that a call owes
+abbrev pub Owes : (i : Input) → Outcome i → Type 0
+Owes (Input.fresh n t) = Owed (fresh n t)
+Owes (Input.tell kind s t f) = Owed (tell kind s t f)
+Owes (Input.clip s t played) = Owed (clip s t played)
+Owes (Input.clipBytes s t bytes) = Owed (clipBytes s t bytes)
+Owes (Input.next s t) = Owed (next s t)
+Owes (Input.nextForC s t) = Owed (nextForC s t)
+Owes (Input.openPairs s t) = Owed (openPairs s t)
+Owes (Input.openPairsForC s t) = Owed (countForC (openPairs s t))
+Owes (Input.hierarchy s t heads steps) = Owed (hierarchy s t heads steps)
+Owes (Input.ladder s t a b out) = Owed (ladder s t a b out)
+Owes (Input.ladderForC s t a b out) = Owed (writesForC (ladder s t a b out))
+Owes (Input.read book t) = λ o. BookRead book t (o .0) (o .1)
+Owes (Input.write s t out) = Owed (write s t out)
 
-abbrev allAnswered : List Row → List Row
-allAnswered [] = []
-allAnswered (row ∷ later) = answered row ∷ allAnswered later
+abbrev pub Meets : Row → Type 0
+Meets row = Owes (row .input) (row .outcome)
 
-meets : (row : Row) → Meets (answered row)
-meets (Row.fresh n t r t′) = fresh-there n t .2
-meets (Row.took kind s t f r t′) = tell-there kind s t f .2
-meets (Row.clipped s t played r t′) = clip-there s t played .2
-meets (Row.next s t q) = next-there s t .1
-meets (Row.hierarchy s t heads steps r heads′ steps′) = hierarchy-there s t heads steps .3
-meets (Row.ladder s t a b out r out′) = ladder-written-there s t a b out .2
-meets (Row.read book t r t′) = read-there book t .2
-meets (Row.write s t out r out′) = write-there s t out .2
-meets (Row.open-pairs n t k) = refl
+-- what is there for a call
+abbrev there : (i : Input) → (o : Outcome i) × Owes i o
+there (Input.fresh n t) = fresh-there n t
+there (Input.tell kind s t f) = tell-there kind s t f
+there (Input.clip s t played) = clip-there s t played
+there (Input.clipBytes s t bytes) = bytes-there s t bytes
+there (Input.next s t) = next-there s t
+there (Input.nextForC s t) = next-for-C-there s t
+there (Input.openPairs s t) = open-pairs-there s t
+there (Input.openPairsForC s t) = open-pairs-for-C-there s t
+there (Input.hierarchy s t heads steps) = hierarchy-there s t heads steps
+there (Input.ladder s t a b out) = ladder-written-there s t a b out
+there (Input.ladderForC s t a b out) =
+    writes-for-C-there (ladder s t a b out) (λ o. refl) (ladder-written-there s t a b out)
+there (Input.read book t) = let q = read-there book t in ((q .0, q .1), q .2)
+there (Input.write s t out) = write-there s t out
 
-all-meet : (l : List Row) → AllMeet (allAnswered l)
-all-meet [] = tt
-all-meet (row ∷ later) = (meets row, all-meet later)
-
--- what is there, computed, is the table itself
-computed : allAnswered rows ≡ rows
-unfolding mark opensTo decLt decLe ℕ-discrete both either implies negated as-well all-below some-below all-pairs least least-from stage is sound? transitive? pruned? yes-after-yes? no-after-yes? no-after-no? rowTo rowsTo standing-there replies-there fresh-there tell-there set? flagged? beyond? clip-contradicts? clipped-no? clip-there next-there first-of under? equal? head-of? head? third? direct? head-there list-there heads-there too-short? hierarchy-there number-there above? to-go between direct-there rung-there rungs-there ladder-there ladder-made writes-there ladder-written-there fieldFault tellsFrom answersFrom itemsFrom passes-there follows-there read-there off? book-there write-there
-computed = refl
+-- it is the outcome that the row has
+computed : (m : Mark) → there (row m .input) .0 ≡ row m .outcome
+unfolding mark opensTo decLt decLe ℕ-discrete both either implies negated as-well all-below some-below all-pairs least least-from stage is sound? transitive? pruned? yes-after-yes? no-after-yes? no-after-no? rowTo rowsTo standing-there owed-there changes-there crossing-there fresh-there tell-there set? flagged? beyond? clip-contradicts? clipped-no? clip-there flags-fit? bytes-there first-of next-there next-for-C-there open-pairs-there open-pairs-for-C-there under? equal? head-of? head? third? direct? head-there list-there heads-there too-short? hierarchy-there number-there above? to-go between direct-there rung-there rungs-there ladder-there ladder-made writes-there ladder-written-there writes-for-C-there rowOf factsFrom itemsFrom row-there field-there goes-there verdict-there made-there follows-there read-there off? book-there write-there
+computed Mark.P1-fresh = refl
+computed Mark.P1-done = refl
+computed Mark.P2-fresh = refl
+computed Mark.P2-open = refl
+computed Mark.P2-asks = refl
+computed Mark.P3-told = refl
+computed Mark.P3-open = refl
+computed Mark.P4-told = refl
+computed Mark.P4-open = refl
+computed Mark.P5-refused = refl
+computed Mark.P6-first-told = refl
+computed Mark.P6-told = refl
+computed Mark.P6-open = refl
+computed Mark.P7-told = refl
+computed Mark.P7-open = refl
+computed Mark.P7-asks = refl
+computed Mark.P8-told = refl
+computed Mark.P8-open = refl
+computed Mark.P8-done = refl
+computed Mark.P8-hierarchy = refl
+computed Mark.P9-refused = refl
+computed Mark.P10-answered = refl
+computed Mark.P11-read = refl
+computed Mark.P11-hierarchy = refl
+computed Mark.P11-ladder = refl
+computed Mark.P11-not-under = refl
+computed Mark.P12-written = refl
+computed Mark.P12-read = refl
+computed Mark.answer-open = refl
+computed Mark.answer-settled = refl
+computed Mark.answer-draws = refl
+computed Mark.answer-refused = refl
+computed Mark.fresh-no-class = refl
+computed Mark.fresh-129-classes = refl
+computed Mark.fresh-short-table = refl
+computed Mark.next-no-class = refl
+computed Mark.next-short-table = refl
+computed Mark.next-not-sound = refl
+computed Mark.next-no-mark = refl
+computed Mark.next-not-sound-first = refl
+computed Mark.next-overcounted = refl
+computed Mark.next-all-tested = refl
+computed Mark.open-no-class = refl
+computed Mark.open-short-table = refl
+computed Mark.open-not-sound = refl
+computed Mark.open-overcounted = refl
+computed Mark.tell-129-classes = refl
+computed Mark.tell-overcounted-first = refl
+computed Mark.tell-lower-beyond = refl
+computed Mark.tell-upper-beyond = refl
+computed Mark.hierarchy-short-steps = refl
+computed Mark.hierarchy-short-heads = refl
+computed Mark.hierarchy-open-first = refl
+computed Mark.hierarchy-open = refl
+computed Mark.ladder-short = refl
+computed Mark.ladder-fits = refl
+computed Mark.ladder-equal = refl
+computed Mark.ladder-beyond-first = refl
+computed Mark.ladder-open-first = refl
+computed Mark.ladder-open = refl
+computed Mark.write-short = refl
+computed Mark.write-one-class = refl
+computed Mark.example-read = refl
+computed Mark.example-cut-read = refl
+computed Mark.example-cut-open = refl
+computed Mark.example-cut-asks = refl
+computed Mark.book-empty = refl
+computed Mark.book-cut-head = refl
+computed Mark.book-cut-head-first = refl
+computed Mark.book-unknown-tag = refl
+computed Mark.book-tag-zero = refl
+computed Mark.book-misplaced = refl
+computed Mark.book-misplaced-first = refl
+computed Mark.book-two-counts = refl
+computed Mark.book-length-first = refl
+computed Mark.book-no-count = refl
+computed Mark.book-cut-contents = refl
+computed Mark.book-no-class = refl
+computed Mark.book-129-classes = refl
+computed Mark.book-short-table = refl
+computed Mark.book-count-alone = refl
+computed Mark.later-cut-head = refl
+computed Mark.later-cut-length = refl
+computed Mark.later-unknown-tag = refl
+computed Mark.later-tag-zero = refl
+computed Mark.later-tag-five = refl
+computed Mark.later-second-count = refl
+computed Mark.later-yes-length = refl
+computed Mark.later-no-length = refl
+computed Mark.later-answers-length = refl
+computed Mark.later-cut-contents = refl
+computed Mark.later-verdict = refl
+computed Mark.later-verdict-first = refl
+computed Mark.later-class-beyond = refl
+computed Mark.later-second-verdict = refl
+computed Mark.later-contradicts = refl
+computed Mark.later-far = refl
+computed Mark.book-no-answers = refl
+computed Mark.book-answers = refl
+computed Mark.clip-of-two = refl
+computed Mark.clip-of-second = refl
+computed Mark.clip-of-one = refl
+computed Mark.clip-rest-kept = refl
+computed Mark.clip-of-none = refl
+computed Mark.clip-of-all = refl
+computed Mark.clip-first-contradicts = refl
+computed Mark.clip-later-contradicts = refl
+computed Mark.clip-beyond = refl
+computed Mark.clip-beyond-first = refl
+computed Mark.clip-overcounted-first = refl
+computed Mark.clip-not-sound-first = refl
+computed Mark.clip-short-table = refl
+computed Mark.clip-129-classes = refl
+computed Mark.bytes-of-two = refl
+computed Mark.bytes-more-flags = refl
+computed Mark.bytes-too-few = refl
+computed Mark.bytes-too-many = refl
+computed Mark.bytes-beyond = refl
+computed Mark.bytes-contradict = refl
+computed Mark.bytes-overcounted-first = refl
+computed Mark.C-asks = refl
+computed Mark.C-done = refl
+computed Mark.C-next-refused = refl
+computed Mark.C-open = refl
+computed Mark.C-open-refused = refl
+computed Mark.C-ladder = refl
+computed Mark.C-ladder-refused = refl
 
 -- P1 to P12, and the other worked marks that say something of the definitions
-pub rows-met : AllMeet rows
-rows-met = subst AllMeet computed (all-meet rows)
-
--- one row of the table, by its number from 0
-abbrev pub rowAt : List Row → ℕ → Row
-rowAt [] k = Row.open-pairs 0 [] 0
-rowAt (row ∷ later) zero = row
-rowAt (row ∷ later) (suc k) = rowAt later k
-
-met-in : (l : List Row) (k : ℕ) → AllMeet l → Meets (rowAt l k)
-unfolding opensTo
-met-in [] k h = refl
-met-in (row ∷ later) zero h = h .0
-met-in (row ∷ later) (suc k) h = met-in later k (h .1)
-
-pub met-at : (k : ℕ) → Meets (rowAt rows k)
-met-at k = met-in rows k rows-met
+pub met : (m : Mark) → Meets (row m)
+met m = subst (Owes (row m .input)) (computed m) (there (row m .input) .1)

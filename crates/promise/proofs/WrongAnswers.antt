@@ -1,129 +1,121 @@
--- Wrong programs do not meet what the calls owe: one that refuses everything, one with a constant reply, one that does nothing, a tell
--- that draws the consequences of the first fact and merely stores later ones, a tally always 0 or invented.
+-- Wrong programs do not meet what the calls owe: one that refuses everything, one with a constant answer, one that does
+-- nothing, a tell that draws what follows from one fact and merely stores later ones, a tally always 0 or made up.
 -- Assumes nothing.
 use mathlib.Core.Path.{_≡_, refl, sym, _∙_, ap, ap₂, subst}
 use mathlib.Core.Logic.{_≢_, _⊎_, inl, ⊎-elim}
 use mathlib.Core.Bool.{Bool, true, false}
-use mathlib.Core.List.{List, [], _∷_}
+use mathlib.Core.List.{List, []}
 use Prim.Native.Nat.{ℕ, zero, suc, _+_, _*_}
 use native.Mathlib.Omega.{arith}
 use lib.ListN.{getD, set}
-use Rattle.order.specs.Facts.{Fact, under, notUnder}
+use Rattle.order.specs.Facts.{Fact, factOn, under, notUnder}
 use Rattle.order.specs.Tables.{mark, Marks, Contradicts, Fresh, markFor, markAgainst}
 use Rattle.order.specs.Pairs.{Before}
 use Rattle.order.proofs.Sets.{yes-not-no}
 use Rattle.promise.specs.declared.Session.{Session}
 use Rattle.promise.specs.declared.Reply.{Reply}
-use Rattle.promise.specs.declared.Question.{Question}
 use Rattle.promise.specs.declared.Question.the-variants.{Ask, Done}
-use Rattle.promise.specs.declared.Counted.{Counted}
-use Rattle.promise.specs.declared.Counted.the-variants.{Count, Refused}
+use Rattle.promise.specs.declared.Counted.the-variants.{Count}
 use Rattle.promise.specs.Sessions.{started}
-use Rattle.promise.specs.Fresh.{Freshened}
-use Rattle.promise.specs.Tell.{Kind, Took}
-use Rattle.promise.specs.Clips.{ClipNo, Clipped}
-use Rattle.promise.specs.Next.{numberOf, Asked}
-use Rattle.promise.specs.Buffers.{numberOf as countNumber}
-use Rattle.promise.specs.Hierarchy.{HierarchyWritten}
-use Rattle.promise.specs.Ladder.{LadderWritten}
-use Rattle.promise.specs.Read.{BookRead}
-use Rattle.promise.specs.Write.{BookWritten}
+use Rattle.promise.specs.Calls.{Call, Owed}
+use Rattle.promise.specs.Tell.{Kind, fresh, tell}
+use Rattle.promise.specs.Clips.{ClipNo, clip}
+use Rattle.promise.specs.Next.{next}
+use Rattle.promise.specs.Counts.{countNumber, openPairs}
+use Rattle.promise.specs.Hierarchy.{hierarchy, ladder}
+use Rattle.promise.specs.Book.{BookRead}
+use Rattle.promise.specs.Write.{write}
 use Rattle.promise.proofs.Fresh.{fresh-unique}
 use Rattle.promise.proofs.Tell.{tell-unique}
 use Rattle.promise.proofs.Clips.{clip-unique}
 use Rattle.promise.proofs.Next.{next-unique}
+use Rattle.promise.proofs.Counts.{open-pairs-unique}
 use Rattle.promise.proofs.Hierarchy.{hierarchy-unique}
 use Rattle.promise.proofs.Ladder.{ladder-written-unique}
 use Rattle.promise.proofs.Read.{read-unique}
 use Rattle.promise.proofs.Write.{write-unique}
-use Rattle.promise.proofs.Table.{p2, p3, p4, p7, p8, p11, p12, afterYes, oneUnderTwo, firstTwo, firstOne, three, four, accepted, refused, nines, nothing}
-use Rattle.promise.proofs.Worked.{met-at}
+use Rattle.promise.proofs.Table.{Mark, p2, p3, p4, p7, p8, p11, p12, afterYes, oneUnderTwo, firstTwo, firstOne}
+use Rattle.promise.proofs.Table.{three, four, nines, example}
+use Rattle.promise.proofs.Worked.{met}
 
--- A contract: what goes in, what comes out, what is owed, and that this fixes the outcome.
+-- A contract: what goes in, what comes out, what is owed, the refusal number, and that what is owed fixes the outcome.
 pub record Contract : Type 1 where
   pub Input : Type 0
   pub Output : Type 0
   pub Owes : Input → Output → Type 0
+  pub number : Input → Output → ℕ
   pub only : (i : Input) (o o₂ : Output) → Owes i o → Owes i o₂ → o ≡ o₂
 
--- a program that meets what the call owes on every input
+-- that of a call
+abbrev pub ofCall :
+    {I O : Type 0} → (call : I → Call O) → ((i : I) (o o₂ : O) → Owed (call i) o → Owed (call i) o₂ → o ≡ o₂) → Contract
+ofCall {I} {O} call only =
+    record { Input = I; Output = O; Owes = λ i. Owed (call i); number = λ i. call i .number; only = only }
+
+-- a program that meets what is owed on every input
 pub record Program (c : Contract) : Type 0 where
   pub run : c .Input → c .Output
   pub meets : (i : c .Input) → c .Owes i (run i)
 
--- where a property fails at one outcome that is owed, no program has it everywhere
+-- no such program has a property everywhere
+abbrev pub Never : (c : Contract) → (c .Input → c .Output → Type 0) → Type 0
+Never c Q = (p : Program c) → ¬ ((i : c .Input) → Q i (p .run i))
+
+-- one outcome that is owed and does not have it shows this
 never :
-    (c : Contract) (Q : c .Input → c .Output → Type 0) (i : c .Input) (o : c .Output) → c .Owes i o → ¬ Q i o
-    → (p : Program c) → ¬ ((i : c .Input) → Q i (p .run i))
-never c Q i o owed fails p all =
-    fails (subst (Q i) (c .only i (p .run i) o (p .meets i) owed) (all i))
+    (c : Contract) (Q : c .Input → c .Output → Type 0) (i : c .Input) {o : c .Output} → c .Owes i o → ¬ Q i o
+    → Never c Q
+never c Q i {o} owed fails p all = fails (subst (Q i) (c .only i (p .run i) o (p .meets i) owed) (all i))
 
 -- No program refuses everything, gives a constant answer, or is idle.
-pub record Rejected (c : Contract) (number : c .Output → ℕ) {A : Type 0} (answer : c .Output → A) (Idle : c .Input → c .Output → Type 0)
+pub record Rejected (c : Contract) {A : Type 0} (answer : c .Output → A) (Idle : c .Input → c .Output → Type 0)
     : Type 0 where
-  pub refuses-all : (p : Program c) → ¬ ((i : c .Input) → number (p .run i) ≢ 0)
-  pub constant : (p : Program c) (a : A) → ¬ ((i : c .Input) → answer (p .run i) ≡ a)
-  pub idle : (p : Program c) → ¬ ((i : c .Input) → Idle i (p .run i))
+  pub refuses-all : Never c (λ i o. c .number i o ≢ 0)
+  pub constant : (a : A) → Never c (λ i o. answer o ≡ a)
+  pub idle : Never c Idle
 
 -- one outcome that is accepted and not idle, and another with another answer, show it
 rejected :
-    (c : Contract) (number : c .Output → ℕ) {A : Type 0} (answer : c .Output → A) (Idle : c .Input → c .Output → Type 0)
-    (i j : c .Input) (o o₂ : c .Output) → c .Owes i o → number o ≡ 0 → ¬ Idle i o → c .Owes j o₂ → answer o ≢ answer o₂
-    → Rejected c number answer Idle
-rejected c number {A} answer Idle i j o o₂ owed fine busy owed₂ differ =
+    {A : Type 0} (c : Contract) {answer : c .Output → A} {Idle : c .Input → c .Output → Type 0} (i j : c .Input)
+    {o o₂ : c .Output} → c .Owes i o → c .number i o ≡ 0 → ¬ Idle i o → c .Owes j o₂ → answer o ≢ answer o₂
+    → Rejected c answer Idle
+rejected {A} c {answer} {Idle} i j {o} {o₂} owed fine busy owed₂ differ =
     record {
-      refuses-all = never c (λ _ x. number x ≢ 0) i o owed (λ z. z fine);
-      constant = λ p a all.
-          differ
-          (sym (ap answer (c .only i (p .run i) o (p .meets i) owed))
-          ∙ all i
-          ∙ sym (all j)
-          ∙ ap answer (c .only j (p .run j) o₂ (p .meets j) owed₂));
-      idle = never c Idle i o owed busy;
+      refuses-all = never c (λ i o. c .number i o ≢ 0) i owed (λ z. z fine);
+      constant = λ a p all.
+          let same = ap answer (c .only i (p .run i) o (p .meets i) owed) in
+          let same₂ = ap answer (c .only j (p .run j) o₂ (p .meets j) owed₂) in
+          differ (sym same ∙ all i ∙ sym (all j) ∙ same₂);
+      idle = never c Idle i owed busy;
     }
 
-pub pair-same : {A B : Type 0} {x y : A × B} → (x .0 ≡ y .0) × (x .1 ≡ y .1) → x ≡ y
-pair-same h = ap₂ (λ a b. (a, b)) (h .0) (h .1)
+-- what two outcomes differ in: the number of a reply, a byte of a list
+abbrev numberOf : Reply → ℕ
+numberOf r = r .number
 
--- lists whose first bytes differ
-other-byte : {x y : ℕ} {l m : List ℕ} → x ≢ y → x ∷ l ≢ y ∷ m
-other-byte ne e = ne (ap (λ (l : List ℕ). getD l 0 0) e)
+abbrev byte : ℕ → List ℕ → ℕ
+byte k l = getD l k 0
 
 -- fresh
 
 abbrev pub freshContract : Contract
-freshContract =
-    record {
-      Input = ℕ × List ℕ;
-      Output = Reply × List ℕ;
-      Owes = λ i o. Freshened (i .0) (i .1) (o .0) (o .1);
-      only = λ i o o₂ h h₂. pair-same (fresh-unique h h₂);
-    }
+freshContract = ofCall {I = ℕ × List ℕ} (λ i. fresh (i .0) (i .1)) (λ i o o₂. fresh-unique)
 
-pub fresh-rejects : Rejected freshContract (λ o. o .0 .number) (λ o. o .0) (λ i o. o .1 ≡ i .1)
+pub fresh-rejects : Rejected freshContract (λ o. o .0) (λ i o. o .1 ≡ i .1)
 fresh-rejects =
-    rejected freshContract (λ o. o .0 .number) (λ o. o .0) (λ i o. o .1 ≡ i .1) (1, nines 2) (0, nines 1)
-    (accepted (started 1), 1 ∷ 9 ∷ []) (refused 1 0 nothing, nines 1) (met-at 0) refl (other-byte (λ z. omega arith))
-    (met-at 29) (λ e. omega (arith, ap (λ (r : Reply). r .number) e))
+    rejected freshContract (1, nines 2) (0, nines 1) (met Mark.P1-fresh) refl (λ e. omega (arith, ap (byte 0) e))
+    (met Mark.fresh-no-class) (λ e. omega (arith, ap numberOf e))
 
 -- tell and answer
 
 abbrev pub tellContract : Kind → Contract
 tellContract kind =
-    record {
-      Input = Session × List ℕ × Fact;
-      Output = Reply × List ℕ;
-      Owes = λ i o. Took kind (i .0) (i .1) (i .2) (o .0) (o .1);
-      only = λ i o o₂ h h₂. pair-same (tell-unique h h₂);
-    }
+    ofCall {I = Session × List ℕ × Fact} (λ i. tell kind (i .0) (i .1) (i .2)) (λ i o o₂. tell-unique kind)
 
--- at P4 and P5
-pub tell-rejects : Rejected (tellContract Kind.told) (λ o. o .0 .number) (λ o. o .0) (λ i o. o .1 ≡ i .1)
+pub tell-rejects : Rejected (tellContract Kind.told) (λ o. o .0) (λ i o. o .1 ≡ i .1)
 tell-rejects =
-    rejected (tellContract Kind.told) (λ o. o .0 .number) (λ o. o .0) (λ i o. o .1 ≡ i .1) (three 0, p3, under 0 1)
-    (three 0, p4, under 1 2) (accepted (three 0), p4) (refused 6 0 (three 0), p4) (met-at 7) refl
-    (λ e. omega (arith, ap (λ (l : List ℕ). getD l 1 0) e)) (met-at 9)
-    (λ e. omega (arith, ap (λ (r : Reply). r .number) e))
+    rejected (tellContract Kind.told) (three 0, p3, under 0 1) (three 0, p4, under 1 2) (met Mark.P4-told) refl
+    (λ e. omega (arith, ap (byte 1) e)) (met Mark.P5-refused) (λ e. omega (arith, ap numberOf e))
 
 -- Storing a fact on a table that is not fresh, and nothing more.
 abbrev pub MerelyStores : Session × List ℕ × Fact → Reply × List ℕ → Type 0
@@ -136,82 +128,69 @@ unfolding mark
 not-fresh h = omega (arith, h .elsewhere 0 2 (omega arith) (omega arith) (λ z. omega arith))
 
 -- at P4: the mark of (1, 2) becomes no
-not-stored : (r : Reply) → r .number ≡ 0 → ¬ MerelyStores (three 0, p3, under 0 1) (r, p4)
-not-stored r e stores = omega (arith, ap (λ (l : List ℕ). getD l 5 0) (stores not-fresh e))
+not-stores :
+    (kind : Kind) {r : Reply} → Owed (tell kind (three 0) p3 (under 0 1)) (r, p4) → r .number ≡ 0
+    → Never (tellContract kind) MerelyStores
+not-stores kind owed e =
+    never (tellContract kind) MerelyStores (three 0, p3, under 0 1) owed (λ stores.
+    omega (arith, ap (byte 5) (stores not-fresh e)))
 
-pub tell-not-stores :
-    (p : Program (tellContract Kind.told)) → ¬ ((i : Session × List ℕ × Fact) → MerelyStores i (p .run i))
-tell-not-stores =
-    never (tellContract Kind.told) MerelyStores (three 0, p3, under 0 1) (accepted (three 0), p4) (met-at 7)
-    (not-stored (accepted (three 0)) refl)
+pub tell-not-stores : Never (tellContract Kind.told) MerelyStores
+tell-not-stores = not-stores Kind.told (met Mark.P4-told) refl
 
-pub answer-not-stores :
-    (p : Program (tellContract Kind.answered)) → ¬ ((i : Session × List ℕ × Fact) → MerelyStores i (p .run i))
-answer-not-stores =
-    never (tellContract Kind.answered) MerelyStores (three 0, p3, under 0 1) (accepted (three 1), p4) (met-at 90)
-    (not-stored (accepted (three 1)) refl)
+pub answer-not-stores : Never (tellContract Kind.answered) MerelyStores
+answer-not-stores = not-stores Kind.answered (met Mark.answer-draws) refl
 
 -- an answer on an open pair, and one on a settled pair: the tally is no constant, 0 or any other
-pub answer-rejects :
-    Rejected (tellContract Kind.answered) (λ o. o .0 .number) (λ o. o .0 .session .tests) (λ i o. o .1 ≡ i .1)
+pub answer-rejects : Rejected (tellContract Kind.answered) (λ o. o .0 .session .tests) (λ i o. o .1 ≡ i .1)
 answer-rejects =
-    rejected (tellContract Kind.answered) (λ o. o .0 .number) (λ o. o .0 .session .tests) (λ i o. o .1 ≡ i .1)
-    (three 0, p7, under 2 1) (three 0, p2, under 1 1) (accepted (three 1), p8) (accepted (three 0), p2) (met-at 27) refl
-    (λ e. omega (arith, ap (λ (l : List ℕ). getD l 3 0) e)) (met-at 20) (λ e. omega arith)
+    rejected (tellContract Kind.answered) (three 0, p7, under 2 1) (three 0, p2, under 1 1) (met Mark.answer-open) refl
+    (λ e. omega (arith, ap (byte 3) e)) (met Mark.P10-answered) (λ e. omega arith)
 
 -- an answer that never counts, one that counts every accepted fact, one that counts refused ones
-pub answer-counts :
-    (p : Program (tellContract Kind.answered))
-    → ¬ ((i : Session × List ℕ × Fact) → p .run i .0 .session .tests ≡ i .0 .tests)
+pub answer-counts : Never (tellContract Kind.answered) (λ i o. o .0 .session .tests ≡ i .0 .tests)
 answer-counts =
     never (tellContract Kind.answered) (λ i o. o .0 .session .tests ≡ i .0 .tests) (three 0, p7, under 2 1)
-    (accepted (three 1), p8) (met-at 27) (λ e. omega arith)
+    (met Mark.answer-open) (λ e. omega arith)
 
-pub answer-counts-open :
-    (p : Program (tellContract Kind.answered))
-    → ¬ ((i : Session × List ℕ × Fact) → p .run i .0 .number ≡ 0 → p .run i .0 .session .tests ≡ i .0 .tests + 1)
+-- the tally grows by one where the number is k
+abbrev pub CountsAt : ℕ → Session × List ℕ × Fact → Reply × List ℕ → Type 0
+CountsAt k i o = o .0 .number ≡ k → o .0 .session .tests ≡ i .0 .tests + 1
+
+pub answer-counts-open : Never (tellContract Kind.answered) (CountsAt 0)
 answer-counts-open =
-    never (tellContract Kind.answered) (λ i o. o .0 .number ≡ 0 → o .0 .session .tests ≡ i .0 .tests + 1)
-    (three 0, p2, under 1 1) (accepted (three 0), p2) (met-at 20) (λ e. omega (arith, e refl))
+    never (tellContract Kind.answered) (CountsAt 0) (three 0, p2, under 1 1) (met Mark.P10-answered)
+    (λ e. omega (arith, e refl))
 
-pub answer-counts-accepted :
-    (p : Program (tellContract Kind.answered))
-    → ¬ ((i : Session × List ℕ × Fact) → p .run i .0 .number ≡ 6 → p .run i .0 .session .tests ≡ i .0 .tests + 1)
+pub answer-counts-accepted : Never (tellContract Kind.answered) (CountsAt 6)
 answer-counts-accepted =
-    never (tellContract Kind.answered) (λ i o. o .0 .number ≡ 6 → o .0 .session .tests ≡ i .0 .tests + 1)
-    (three 0, p4, under 1 2) (refused 6 0 (three 0), p4) (met-at 89) (λ e. omega (arith, e refl))
+    never (tellContract Kind.answered) (CountsAt 6) (three 0, p4, under 1 2) (met Mark.answer-refused)
+    (λ e. omega (arith, e refl))
 
 -- clip
 
 abbrev pub clipContract : Contract
-clipContract =
-    record {
-      Input = Session × List ℕ × List Bool;
-      Output = Reply × List ℕ;
-      Owes = λ i o. Clipped (i .0) (i .1) (i .2) (o .0) (o .1);
-      only = λ i o o₂ h h₂. pair-same (clip-unique h h₂);
-    }
+clipContract = ofCall {I = Session × List ℕ × List Bool} (λ i. clip (i .0) (i .1) (i .2)) (λ i o o₂. clip-unique)
 
-pub clip-rejects : Rejected clipContract (λ o. o .0 .number) (λ o. o .0) (λ i o. o .1 ≡ i .1)
+pub clip-rejects : Rejected clipContract (λ o. o .0) (λ i o. o .1 ≡ i .1)
 clip-rejects =
-    rejected clipContract (λ o. o .0 .number) (λ o. o .0) (λ i o. o .1 ≡ i .1) (three 0, afterYes, firstTwo)
-    (three 0, afterYes, firstOne) (accepted (three 0), p4) (refused 6 0 (three 0), afterYes) (met-at 94) refl
-    (λ e. omega (arith, ap (λ (l : List ℕ). getD l 2 0) e)) (met-at 100)
-    (λ e. omega (arith, ap (λ (r : Reply). r .number) e))
+    rejected clipContract (three 0, afterYes, firstTwo) (three 0, afterYes, firstOne) (met Mark.clip-of-two) refl
+    (λ e. omega (arith, ap (byte 2) e)) (met Mark.clip-first-contradicts) (λ e. omega (arith, ap numberOf e))
 
 -- Noes told one by one in row order up to the first that contradicts, and left written.
 abbrev pub TakesInPart : Session × List ℕ × List Bool → Reply × List ℕ → Type 0
 TakesInPart i o =
     o .0 .number ≡ 6 → (f : Fact) → ClipNo (i .0 .classes) (i .2) f
-    → ((g : Fact) → ClipNo (i .0 .classes) (i .2) g → Contradicts (i .0 .classes) (i .1) g → Before (f .lower, f .upper) (g .lower, g .upper))
+    → ((g : Fact) → ClipNo (i .0 .classes) (i .2) g → Contradicts (i .0 .classes) (i .1) g
+    → Before (f .lower, f .upper) (g .lower, g .upper))
     → Marks (i .0 .classes) (o .1) f
 
 -- where 1 is under 2 and 0 and 1 played: the no on (0, 2) comes before that on (1, 2)
-pub clip-not-in-part : (p : Program clipContract) → ¬ ((i : Session × List ℕ × List Bool) → TakesInPart i (p .run i))
+pub clip-not-in-part : Never clipContract TakesInPart
 unfolding mark
 clip-not-in-part =
-    never clipContract TakesInPart (three 0, oneUnderTwo, firstTwo) (refused 6 0 (three 0), oneUnderTwo) (met-at 101) (λ h.
-    omega (arith, h refl (notUnder 0 2) said (λ g no-fact against. later (g .lower) (g .upper) (g .holds) no-fact against) .settled))
+    never clipContract TakesInPart (three 0, oneUnderTwo, firstTwo) (met Mark.clip-later-contradicts) (λ h.
+    omega (arith, h refl (notUnder 0 2) said (λ g. later (g .lower) (g .upper) (g .holds)) .settled))
   where
     said : ClipNo 3 firstTwo (notUnder 0 2)
     said =
@@ -223,8 +202,8 @@ clip-not-in-part =
         }
 
     later :
-        (a b : ℕ) (v : Bool) → ClipNo 3 firstTwo (record { lower = a; upper = b; holds = v })
-        → mark 3 oneUnderTwo a b ≡ markAgainst v → Before (0, 2) (a, b)
+        (a b : ℕ) (v : Bool) → ClipNo 3 firstTwo (factOn a b v) → mark 3 oneUnderTwo a b ≡ markAgainst v
+        → Before (0, 2) (a, b)
     later (suc a) b v h m = inl (omega arith)
     later zero zero v h m = absurd (h .non-member refl)
     later zero (suc zero) v h m = absurd (h .non-member refl)
@@ -235,58 +214,52 @@ clip-not-in-part =
 -- next: one that always says done is idle
 
 abbrev pub nextContract : Contract
-nextContract =
-    record {
-      Input = Session × List ℕ;
-      Output = Question;
-      Owes = λ i q. Asked (i .0) (i .1) q;
-      only = λ i q q₂ h h₂. next-unique h h₂;
-    }
+nextContract = ofCall {I = Session × List ℕ} (λ i. next (i .0) (i .1)) (λ i o o₂. next-unique (i .0) (i .1))
 
-pub next-rejects : Rejected nextContract numberOf (λ q. q) (λ i q. q ≡ Done)
-next-rejects =
-    rejected nextContract numberOf (λ q. q) (λ i q. q ≡ Done) (three 0, p2) (three 0, p8) (Ask 0 1) Done (met-at 4) refl asks
-    (met-at 17) asks
+pub next-rejects : Rejected nextContract (λ q. q) (λ i q. q ≡ Done)
+next-rejects = rejected nextContract (three 0, p2) (three 0, p8) (met Mark.P2-asks) refl asks (met Mark.P8-done) asks
   where
     asks : Ask 0 1 ≢ Done
     asks e = let z : _≡_ {A = ℕ} 0 1 = cc in omega arith
+
+-- open_pairs: one that always says that none is open is idle
+
+abbrev pub openPairsContract : Contract
+openPairsContract =
+    ofCall {I = Session × List ℕ} (λ i. openPairs (i .0) (i .1)) (λ i o o₂. open-pairs-unique (i .0) (i .1))
+
+pub open-pairs-rejects : Rejected openPairsContract (λ r. r) (λ i r. r ≡ Count 0)
+open-pairs-rejects =
+    rejected openPairsContract (three 0, p2) (three 0, p8) (met Mark.P2-open) refl some (met Mark.P8-open) some
+  where
+    some : Count 6 ≢ Count 0
+    some e = let z : _≡_ {A = ℕ} 6 0 = cc in omega arith
 
 -- hierarchy
 
 abbrev pub hierarchyContract : Contract
 hierarchyContract =
-    record {
-      Input = Session × List ℕ × List ℕ × List ℕ;
-      Output = Counted × (List ℕ × List ℕ);
-      Owes = λ i o. HierarchyWritten (i .0) (i .1) (i .2) (i .3) (o .0) (o .1 .0) (o .1 .1);
-      only = λ i o o₂ h h₂. let q = hierarchy-unique h h₂ in pair-same (q .0, pair-same (q .1, q .2));
-    }
+    ofCall {I = Session × List ℕ × List ℕ × List ℕ} (λ i. hierarchy (i .0) (i .1) (i .2) (i .3))
+    (λ i o o₂. hierarchy-unique (i .0) (i .1) (i .2) (i .3))
 
-pub hierarchy-rejects :
-    Rejected hierarchyContract (λ o. countNumber (o .0)) (λ o. o .0) (λ i o. (o .1 .0 ≡ i .2) ⊎ (o .1 .1 ≡ i .3))
+pub hierarchy-rejects : Rejected hierarchyContract (λ o. o .0) (λ i o. (o .1 .0 ≡ i .2) ⊎ (o .1 .1 ≡ i .3))
 hierarchy-rejects =
-    rejected hierarchyContract (λ o. countNumber (o .0)) (λ o. o .0) (λ i o. (o .1 .0 ≡ i .2) ⊎ (o .1 .1 ≡ i .3))
-    (three 0, p8, nines 4, nines 3) (four, p11, nines 4, nines 7)
-    (Count 1, (0 ∷ 1 ∷ 1 ∷ 9 ∷ [], 0 ∷ 1 ∷ 9 ∷ [])) (Refused 8 0, (nines 4, nines 7)) (met-at 18) refl
-    (⊎-elim (other-byte (λ z. omega arith)) (other-byte (λ z. omega arith))) (met-at 39)
+    rejected hierarchyContract (three 0, p8, nines 4, nines 3) (four, p11, nines 4, nines 7) (met Mark.P8-hierarchy)
+    refl (⊎-elim (λ e. omega (arith, ap (byte 0) e)) (λ e. omega (arith, ap (byte 0) e)))
+    (met Mark.hierarchy-short-steps)
     (λ e. omega (arith, ap countNumber e))
 
 -- ladder
 
 abbrev pub ladderContract : Contract
 ladderContract =
-    record {
-      Input = Session × List ℕ × ℕ × ℕ × List ℕ;
-      Output = Counted × List ℕ;
-      Owes = λ i o. LadderWritten (i .0) (i .1) (i .2) (i .3) (i .4) (o .0) (o .1);
-      only = λ i o o₂ h h₂. pair-same (ladder-written-unique (i .0) (i .1) (i .2) (i .3) (i .4) h h₂);
-    }
+    ofCall {I = Session × List ℕ × ℕ × ℕ × List ℕ} (λ i. ladder (i .0) (i .1) (i .2) (i .3) (i .4))
+    (λ i o o₂. ladder-written-unique (i .0) (i .1) (i .2) (i .3) (i .4))
 
-pub ladder-rejects : Rejected ladderContract (λ o. countNumber (o .0)) (λ o. o .0) (λ i o. o .1 ≡ i .4)
+pub ladder-rejects : Rejected ladderContract (λ o. o .0) (λ i o. o .1 ≡ i .4)
 ladder-rejects =
-    rejected ladderContract (λ o. countNumber (o .0)) (λ o. o .0) (λ i o. o .1 ≡ i .4) (four, p11, 0, 3, nines 3)
-    (four, p11, 1, 2, nines 3) (Count 3, 0 ∷ 1 ∷ 3 ∷ []) (Refused 9 0, nines 3) (met-at 23) refl
-    (other-byte (λ z. omega arith)) (met-at 24) (λ e. omega (arith, ap countNumber e))
+    rejected ladderContract (four, p11, 0, 3, nines 3) (four, p11, 1, 2, nines 3) (met Mark.P11-ladder) refl
+    (λ e. omega (arith, ap (byte 0) e)) (met Mark.P11-not-under) (λ e. omega (arith, ap countNumber e))
 
 -- read
 
@@ -296,35 +269,28 @@ readContract =
       Input = List ℕ × List ℕ;
       Output = Reply × List ℕ;
       Owes = λ i o. BookRead (i .0) (i .1) (o .0) (o .1);
-      only = λ i o o₂ h h₂. pair-same (read-unique h h₂);
+      number = λ i o. o .0 .number;
+      only = λ i o o₂ h h₂. let q = read-unique h h₂ in ap₂ (λ r t. (r, t)) (q .0) (q .1);
     }
 
-pub read-rejects : Rejected readContract (λ o. o .0 .number) (λ o. o .0) (λ i o. o .1 ≡ i .1)
+pub read-rejects : Rejected readContract (λ o. o .0) (λ i o. o .1 ≡ i .1)
 read-rejects =
-    rejected readContract (λ o. o .0 .number) (λ o. o .0) (λ i o. o .1 ≡ i .1) (p12, nines 9) ([], nines 9)
-    (accepted (three 0), p8) (refused 12 0 nothing, nines 9) (met-at 26) refl (other-byte (λ z. omega arith))
-    (met-at 52) (λ e. omega (arith, ap (λ (r : Reply). r .number) e))
+    rejected readContract (p12, nines 9) ([], nines 9) (met Mark.P12-read) refl (λ e. omega (arith, ap (byte 0) e))
+    (met Mark.book-empty) (λ e. omega (arith, ap numberOf e))
+
+-- a reading that keeps the tally at 0, at 01's printed example
+pub read-counts : Never readContract (λ i o. o .0 .session .tests ≡ 0)
+read-counts =
+    never readContract (λ i o. o .0 .session .tests ≡ 0) (example, nines 9) (met Mark.example-read) (λ e. omega arith)
 
 -- write
 
 abbrev pub writeContract : Contract
 writeContract =
-    record {
-      Input = Session × List ℕ × List ℕ;
-      Output = Counted × List ℕ;
-      Owes = λ i o. BookWritten (i .0) (i .1) (i .2) (o .0) (o .1);
-      only = λ i o o₂ h h₂. pair-same (write-unique (i .0) (i .1) (i .2) h h₂);
-    }
+    ofCall {I = Session × List ℕ × List ℕ} (λ i. write (i .0) (i .1) (i .2))
+    (λ i o o₂. write-unique (i .0) (i .1) (i .2))
 
-pub write-rejects : Rejected writeContract (λ o. countNumber (o .0)) (λ o. o .0) (λ i o. o .1 ≡ i .2)
+pub write-rejects : Rejected writeContract (λ o. o .0) (λ i o. o .1 ≡ i .2)
 write-rejects =
-    rejected writeContract (λ o. countNumber (o .0)) (λ o. o .0) (λ i o. o .1 ≡ i .2) (three 0, p8, nines 22)
-    (three 0, p8, nines 21) (Count 22, p12) (Refused 8 0, nines 21) (met-at 25) refl (other-byte (λ z. omega arith))
-    (met-at 46) (λ e. omega (arith, ap countNumber e))
-
--- a reading that keeps the tally at 0, at 01's printed example
-pub read-counts : (p : Program readContract) → ¬ ((i : List ℕ × List ℕ) → p .run i .0 .session .tests ≡ 0)
-read-counts =
-    never readContract (λ i o. o .0 .session .tests ≡ 0)
-    (1 ∷ 0 ∷ 1 ∷ 3 ∷ 2 ∷ 0 ∷ 6 ∷ 0 ∷ 1 ∷ 1 ∷ 2 ∷ 2 ∷ 1 ∷ 4 ∷ 0 ∷ 3 ∷ 1 ∷ 0 ∷ 0 ∷ [], nines 9)
-    (accepted (three 1), p8) (met-at 48) (λ e. omega arith)
+    rejected writeContract (three 0, p8, nines 22) (three 0, p8, nines 21) (met Mark.P12-written) refl
+    (λ e. omega (arith, ap (byte 0) e)) (met Mark.write-short) (λ e. omega (arith, ap countNumber e))

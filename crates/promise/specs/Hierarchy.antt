@@ -100,11 +100,11 @@ pub record LadderOf (n : ℕ) (t : List ℕ) (a b : ℕ) (l : List ℕ) : Type 0
   pub rungs : Ladder n t b start l
 
 -- "heads strictly above the rung and under the goal", the goal being b
-pub record Above (n : ℕ) (t : List ℕ) (b rung c : ℕ) : Type 0 where
-  pub head : Head n t c
-  pub differ : c ≢ rung
-  pub above : Under n t rung c
-  pub under : Under n t c b
+pub record Above (n : ℕ) (t : List ℕ) (b rung h : ℕ) : Type 0 where
+  pub head : Head n t h
+  pub differ : h ≢ rung
+  pub above : Under n t rung h
+  pub under : Under n t h b
 
 -- m of the numbers below k have P
 pub data Number (P : ℕ → Type 0) : ℕ → ℕ → Type 0 where

@@ -11,8 +11,8 @@ pub struct Asked {
     pub upper: usize,
 }
 
-// What hierarchy, ladder and write give. A count is 0 where the call is refused.
-pub struct Counted {
+// What open_pairs, hierarchy, ladder and write give. A count is 0 where the call is refused.
+pub struct CountLine {
     pub number: u8,
     pub place: usize,
     pub count: usize,
@@ -44,14 +44,14 @@ pub fn asked_by(question: Question) -> Asked {
     }
 }
 
-pub fn counted_by(wrote: Counted) -> Counted {
-    match wrote {
-        Counted::Count(count) => Counted {
+pub fn count_line(counted: Counted) -> CountLine {
+    match counted {
+        Counted::Count(count) => CountLine {
             number: 0,
             place: 0,
             count: count,
         },
-        Counted::Refused { number, place } => Counted {
+        Counted::Refused { number, place } => CountLine {
             number: number,
             place: place,
             count: 0,

@@ -83,6 +83,13 @@ pub fn next(sizes: Sizes, mut kept: Kept) -> Kept {
     settled
 }
 
+pub fn open_pairs(kept: Kept) -> Kept {
+    let given = kept.given;
+    let session = given.session;
+    let counted = lent::open_pairs(session, given.lent, &kept.table);
+    settle(kept, counted.number, session)
+}
+
 pub fn hierarchy(sizes: Sizes, mut kept: Kept) -> Kept
     requires { ⌜ Few (sizes .n) ⌝ }
 {

@@ -1,8 +1,8 @@
 // The calls on the bytes that are lent to them. Each is made, and its line printed.
 use crate::answers::Asked;
-use crate::answers::Counted;
+use crate::answers::CountLine;
 use crate::answers::asked_by;
-use crate::answers::counted_by;
+use crate::answers::count_line;
 use crate::draw::Fact;
 use crate::draw::Rooms;
 use crate::draw::Rungs;
@@ -47,6 +47,14 @@ pub fn next(session: Session, lent: usize, table: &[u8]) -> Asked {
     asked
 }
 
+pub fn open_pairs(session: Session, lent: usize, table: &[u8]) -> CountLine {
+    let marks = within(lent, table);
+    let counted = count_line(dawnhangra::open_pairs(session, &table[..marks]));
+    show::counted(b'O', counted);
+    show::last(lent, table);
+    counted
+}
+
 pub fn hierarchy(
     session: Session,
     lent: usize,
@@ -54,11 +62,11 @@ pub fn hierarchy(
     rooms: Rooms,
     heads: &mut [u8],
     steps: &mut [u8],
-) -> Counted {
+) -> CountLine {
     let marks = within(lent, table);
     let heads_room = within(rooms.heads, &*heads);
     let steps_room = within(rooms.steps, &*steps);
-    let counted = counted_by(dawnhangra::hierarchy(
+    let counted = count_line(dawnhangra::hierarchy(
         session,
         &table[..marks],
         &mut heads[..heads_room],
@@ -76,10 +84,10 @@ pub fn ladder(
     table: &[u8],
     rungs: Rungs,
     heads: &mut [u8],
-) -> Counted {
+) -> CountLine {
     let marks = within(lent, table);
     let room = within(rungs.lent, &*heads);
-    let counted = counted_by(dawnhangra::ladder(
+    let counted = count_line(dawnhangra::ladder(
         session,
         &table[..marks],
         rungs.lower,
@@ -91,10 +99,16 @@ pub fn ladder(
     counted
 }
 
-pub fn write(session: Session, lent: usize, table: &[u8], room: usize, book: &mut [u8]) -> Counted {
+pub fn write(
+    session: Session,
+    lent: usize,
+    table: &[u8],
+    room: usize,
+    book: &mut [u8],
+) -> CountLine {
     let marks = within(lent, table);
     let count = within(room, &*book);
-    let counted = counted_by(dawnhangra::write(session, &table[..marks], &mut book[..count]));
+    let counted = count_line(dawnhangra::write(session, &table[..marks], &mut book[..count]));
     show::counted(b'W', counted);
     show::last_two(lent, table, room, &*book);
     counted

@@ -50,7 +50,7 @@ fn call(sizes: Sizes, kept: Kept) -> Kept
     requires { ⌜ Few (sizes .n) ⌝ }
 {
     let mut troubled = trouble(sizes, kept);
-    match draw(&mut troubled.state, 18) {
+    match draw(&mut troubled.state, 19) {
         0..=4 => calls::tell_or_answer(b'T', sizes, troubled),
         5..=8 => calls::tell_or_answer(b'A', sizes, troubled),
         9 | 10 => calls::next(sizes, troubled),
@@ -58,7 +58,8 @@ fn call(sizes: Sizes, kept: Kept) -> Kept
         12 | 13 => calls::ladder(sizes, troubled),
         14 => calls::write(sizes, troubled),
         15 => calls::read(sizes, troubled),
-        _ => calls::clip(sizes, troubled),
+        16 | 17 => calls::clip(sizes, troubled),
+        _ => calls::open_pairs(troubled),
     }
 }
 

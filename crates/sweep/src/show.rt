@@ -1,6 +1,6 @@
 // The lines: a letter, what the call gave, and the digests of the bytes that were lent to it.
 use crate::answers::Asked;
-use crate::answers::Counted;
+use crate::answers::CountLine;
 use crate::kept::within;
 use libc::STDOUT_FILENO;
 use promise::Reply;
@@ -29,7 +29,7 @@ pub fn reply(letter: u8, given: Reply) {
     number(session.tests);
 }
 
-pub fn counted(letter: u8, given: Counted) {
+pub fn counted(letter: u8, given: CountLine) {
     begin(letter, given.number, given.place);
     number(given.count);
 }

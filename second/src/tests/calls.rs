@@ -1,7 +1,7 @@
 //! The worked marks of single calls, P1 to P12 first.
 
 use super::*;
-use crate::calls::{hierarchy, ladder, next, read, write};
+use crate::calls::{hierarchy, ladder, next, open_pairs, read, write};
 
 fn asks(state: &State) -> Result<Option<(usize, usize)>, Refusal> {
     next(state.0, &state.1)
@@ -24,14 +24,14 @@ fn p1_one_class_is_done() {
 fn p2_to_p5_a_yes_settles_a_no() {
     let p2 = fresh_state(3);
     assert_eq!(p2.1, [1, 0, 0, 0, 1, 0, 0, 0, 1]);
-    assert_eq!(open_pairs(&p2).len(), 6);
+    assert_eq!(left_open(&p2).len(), 6);
     assert_eq!(asks(&p2), Ok(Some((0, 1))));
     let p3 = told(&p2, &[(0, 2, NO)]);
     assert_eq!(p3.1, [1, 0, 2, 0, 1, 0, 0, 0, 1]);
-    assert_eq!(open_pairs(&p3).len(), 5);
+    assert_eq!(left_open(&p3).len(), 5);
     let p4 = told(&p3, &[(0, 1, YES)]);
     assert_eq!(p4.1, [1, 1, 2, 0, 1, 2, 0, 0, 1]);
-    assert_eq!(open_pairs(&p4), [(1, 0), (2, 0), (2, 1)]);
+    assert_eq!(left_open(&p4), [(1, 0), (2, 0), (2, 1)]);
     tell_refused(&p4, (1, 2, YES), 6);
 }
 
@@ -39,11 +39,11 @@ fn p2_to_p5_a_yes_settles_a_no() {
 fn p6_to_p8_chains_and_groups() {
     let p6 = told(&fresh_state(3), &[(0, 1, YES), (1, 2, YES)]);
     assert_eq!(p6.1[2], 1);
-    assert_eq!(open_pairs(&p6), [(1, 0), (2, 0), (2, 1)]);
+    assert_eq!(left_open(&p6), [(1, 0), (2, 0), (2, 1)]);
     let p7 = told(&p6, &[(2, 0, NO)]);
-    assert_eq!(open_pairs(&p7), [(1, 0), (2, 1)]);
+    assert_eq!(left_open(&p7), [(1, 0), (2, 1)]);
     let p8 = told(&p7, &[(2, 1, YES)]);
-    assert_eq!(open_pairs(&p8), []);
+    assert_eq!(left_open(&p8), []);
     assert_eq!(asks(&p8), Ok(None));
     let (mut heads, mut steps) = ([7; 4], [7; 4]);
     assert_eq!(hierarchy(p8.0, &p8.1, &mut heads, &mut steps), Ok(1));
@@ -60,7 +60,7 @@ fn p9_and_p10_the_diagonal() {
 #[test]
 fn p11_steps_and_ladders() {
     let (session, table) = p11();
-    assert_eq!(open_pairs(&(session, table.clone())), []);
+    assert_eq!(left_open(&(session, table.clone())), []);
     let (mut heads, mut steps) = ([7; 4], [7; 8]);
     assert_eq!(hierarchy(session, &table, &mut heads, &mut steps), Ok(4));
     assert_eq!(heads, [0, 1, 2, 3]);
@@ -118,6 +118,59 @@ fn short_buffers() {
     let mut book = [7; 21];
     let short_book = write(session, &table, &mut book);
     assert_eq!((short_book, book), (refused(8), [7; 21]));
+}
+
+/// Those of P1 to P4, P6 to P8 and P11, and of 128 fresh classes.
+#[test]
+fn counts_of_open_pairs() {
+    let count = |state: &State| open_pairs(state.0, &state.1);
+    assert_eq!(count(&fresh_state(1)), Ok(0));
+    let p2 = fresh_state(3);
+    assert_eq!(count(&p2), Ok(6));
+    let p3 = told(&p2, &[(0, 2, NO)]);
+    assert_eq!(count(&p3), Ok(5));
+    assert_eq!(count(&told(&p3, &[(0, 1, YES)])), Ok(3));
+    let p6 = told(&p2, &[(0, 1, YES), (1, 2, YES)]);
+    assert_eq!(count(&p6), Ok(3));
+    assert_eq!(count(&told(&p6, &[(2, 0, NO)])), Ok(2));
+    assert_eq!(count(&p8()), Ok(0));
+    assert_eq!(count(&p11()), Ok(0));
+    assert_eq!(count(&fresh_state(128)), Ok(128 * 128 - 128));
+}
+
+#[test]
+fn open_pairs_of_lent_bytes() {
+    let fresh = [1, 0, 0, 0, 1, 0, 0, 0, 1, 0, 3];
+    // Bytes from n*n on are no marks, open or other.
+    assert_eq!(open_pairs(session(3, 0), &fresh), Ok(6));
+    assert_eq!(open_pairs(session(3, 0), &fresh[..8]), refused(2));
+    assert_eq!(open_pairs(session(0, 0), &fresh), refused(1));
+    assert_eq!(open_pairs(session(129, 9), &[]), refused(1));
+    assert_eq!(open_pairs(session(4, 9), &[3; 15]), refused(2));
+    // One class open to itself, and a tally that is too high besides.
+    assert_eq!(open_pairs(session(1, 9), &[0]), refused(3));
+    assert_eq!(open_pairs(session(3, 1), &fresh), refused(4));
+    assert_eq!(open_pairs(session(3, u64::MAX), &fresh), refused(4));
+}
+
+/// "From any moment on, answers counted since plus pairs still open never
+/// exceed the pairs open at that moment."
+#[test]
+fn open_pairs_fall_with_answers() {
+    let mut state = fresh_state(3);
+    let mut open = vec![open_pairs(state.0, &state.1)];
+    for (a, b, yes) in [
+        (0, 1, YES),
+        (1, 2, YES),
+        (0, 2, YES),
+        (2, 0, NO),
+        (2, 1, YES),
+    ] {
+        state = answered(&state, a, b, yes);
+        open.push(open_pairs(state.0, &state.1));
+    }
+    assert_eq!(open, [Ok(6), Ok(5), Ok(3), Ok(3), Ok(2), Ok(0)]);
+    assert_eq!(state.0, session(3, 4));
 }
 
 #[test]

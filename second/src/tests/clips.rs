@@ -181,7 +181,7 @@ fn clips_are_not_counted() {
     assert_eq!(state.0, session(3, 1));
     let after = clipped(&state, &[0, 1]);
     assert_eq!(after.0, session(3, 1));
-    assert_eq!(open_pairs(&after), [(1, 0), (2, 0), (2, 1)]);
+    assert_eq!(left_open(&after), [(1, 0), (2, 0), (2, 1)]);
     // An answer on a pair that a clip settled is not counted either.
     assert_eq!(answered(&after, 1, 2, NO), after);
 }

@@ -62,7 +62,7 @@ fn answered(state: &State, a: u64, b: u64, yes: bool) -> State {
 }
 
 /// The open pairs in row order, as the table's bytes have them.
-fn open_pairs(state: &State) -> Vec<(usize, usize)> {
+fn left_open(state: &State) -> Vec<(usize, usize)> {
     let (session, table) = state;
     let n = session.classes as usize;
     (0..n * n)

@@ -20,7 +20,7 @@ put-line-requires c κs =
     let start = asked .before .before .before in
     let short =
     question-short (start .args .session) (start .pre .0)
-    (asked-first (asked .next .ensures) (question .question .given .1))
+    (asked-first _ _ (asked .next .ensures) (question .question .given .1))
     in
     simp length-append (omega (arith, start .pre .2))
 
@@ -39,19 +39,19 @@ returns c =
     record {
       lower = _;
       upper = _;
-      first = asked-first (question .before .before .next .ensures) (question .question .given .1);
+      first = asked-first _ _ (question .before .before .next .ensures) (question .question .given .1);
       put = c .before .before .put-line .ensures;
     }
 
 returns-2 : tie.Need-returns-2
 returns-2 c =
     let asked = c .before .before in
-    absurd (never-done (asked .before .before .before .pre .1) (asked .next .ensures) (c .enum-told .given .1))
+    absurd (never-done _ _ (asked .before .before .before .pre .1) (asked .next .ensures) (c .enum-told .given .1))
 
 returns-3 : tie.Need-returns-3
 returns-3 c =
     let asked = c .before .before in
-    absurd (never-refused (asked .before .before .before .pre .0) (asked .next .ensures) (c .enum-told2 .given .1))
+    absurd (never-refused _ _ (asked .before .before .before .pre .0) (asked .next .ensures) (c .enum-told2 .given .1))
 
 pub put-question-spec : {M : Type 1} → statement M
 put-question-spec =

@@ -9,8 +9,8 @@ use Rattle.lines.proofs.put_settled.Tie as tie
 hierarchy-requires : tie.Need-hierarchy-requires
 hierarchy-requires c κs = search needs
 
-enum-known-wrote : tie.Need-enum-known-wrote
-enum-known-wrote c = search needs
+enum-known-counted : tie.Need-enum-known-counted
+enum-known-counted c = search needs
 
 put-classes-requires : tie.Need-put-classes-requires
 put-classes-requires c κs =
@@ -24,10 +24,10 @@ put-classes-requires c κs =
 put-steps-requires : tie.Need-put-steps-requires
 put-steps-requires c κs =
     let classes = c .before .before .before .before in
-    let wrote = classes .before .before .before .before in
-    let h = wrote .before .before .before .before .before .before in
+    let counted = classes .before .before .before .before in
+    let h = counted .before .before .before .before .before .before in
     let start = h .before .before .before .before .before .before .before in
-    let count = steps-counted (start .pre) (h .hierarchy .ensures) (wrote .wrote .given .1) in (
+    let count = steps-counted (start .pre) (h .hierarchy .ensures) (counted .counted .given .1) in (
       omega (arith, count, start .pre .steps-room, h .hierarchy .kept .1 .1 .1 .0),
       omega (
         arith,
@@ -54,10 +54,10 @@ same-length-3 c = search needs
 returns : tie.Need-returns
 returns c =
     let classes = c .before .before .before .before .before .before .before in
-    let wrote = classes .before .before .before .before in
-    let h = wrote .before .before .before .before .before .before in
+    let counted = classes .before .before .before .before in
+    let h = counted .before .before .before .before .before .before in
     let start = h .before .before .before .before .before .before .before in
-    settled-put (start .pre) (h .hierarchy .ensures) (wrote .wrote .given .1) (classes .put-classes .ensures)
+    settled-put (start .pre) (h .hierarchy .ensures) (counted .counted .given .1) (classes .put-classes .ensures)
     (c .before .before .put-steps .ensures)
 
 same-length-4 : tie.Need-same-length-4
@@ -77,7 +77,7 @@ put-settled-spec =
     tie.close
     (tie.spec
     hierarchy-requires
-    enum-known-wrote
+    enum-known-counted
     put-classes-requires
     put-steps-requires
     enum-told

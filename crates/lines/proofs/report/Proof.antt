@@ -4,7 +4,7 @@ use mathlib.Core.Path.{sym, _∙_}
 use native.Mathlib.Omega.{arith}
 use lib.ListN.{length-append}
 use Rattle.buffers.proofs.Decimals.{decimal-longest}
-use Rattle.lines.proofs.Saying.{counts-short, ready-shape, reported-refused, reported-settled, reported-open}
+use Rattle.lines.proofs.Saying.{counts-short, reported-refused, reported-settled, reported-open}
 use borrow.Author.Needs.{needs}
 use Rattle.lines.proofs.report.Statement.{statement}
 use Rattle.lines.proofs.report.Tie as tie
@@ -24,15 +24,15 @@ same-length c = search needs
 returns : tie.Need-returns
 returns c = reported-refused (c .before .before .before .before .before .if1 .taken) (c .before .before .put-line .ensures)
 
-count-open-requires : tie.Need-count-open-requires
-count-open-requires c κs = ready-shape (c .before .before .before .before .before .before .before .pre) (c .before .if1 .left)
+opened-requires : tie.Need-opened-requires
+opened-requires c κs = c .before .before .before .before .before .before .before .pre .stands (c .before .if1 .left)
 
 put-counts-requires : tie.Need-put-counts-requires
 put-counts-requires c κs =
     let opened = c .before in
     let accepted = opened .before .before in
     let start = accepted .before .before .before .before .before .before in
-    let counts = counts-short (start .pre) (accepted .if1 .left) (opened .count-open .ensures) in
+    let counts = counts-short (start .pre) (accepted .if1 .left) (opened .opened .ensures) in
     simp length-append (omega (arith, start .pre .text-room))
 
 put-settled-requires : tie.Need-put-settled-requires
@@ -44,7 +44,7 @@ put-settled-requires c κs =
     let start = accepted .before .before .before .before .before .before in
     record {
       stands = start .pre .stands (accepted .if1 .left);
-      none-open = sym (opened .count-open .ensures) ∙ none .if2 .taken;
+      none-open = sym (opened .opened .ensures) ∙ none .if2 .taken;
       heads-room = start .pre .heads-room;
       steps-room = start .pre .steps-room;
       text-room =
@@ -53,7 +53,7 @@ put-settled-requires c κs =
             start .pre .text-room,
             counts .put-counts .kept .0,
             simp length-append at (counts .put-counts .ensures .ends),
-            counts-short (start .pre) (accepted .if1 .left) (opened .count-open .ensures),
+            counts-short (start .pre) (accepted .if1 .left) (opened .opened .ensures),
           );
     }
 
@@ -72,7 +72,7 @@ returns-2 c =
     let none = settled .before .before .before .before in
     let counts = none .before .before .before in
     let opened = counts .before .before in
-    reported-settled (opened .before .before .if1 .left) (opened .count-open .ensures) (none .if2 .taken)
+    reported-settled (opened .before .before .if1 .left) (opened .opened .ensures) (none .if2 .taken)
     (counts .put-counts .ensures) (settled .put-settled .ensures)
 
 put-question-requires : tie.Need-put-question-requires
@@ -83,13 +83,13 @@ put-question-requires c κs =
     let accepted = opened .before .before in
     let start = accepted .before .before .before .before .before .before in (
       start .pre .stands (accepted .if1 .left),
-      omega (arith, opened .count-open .ensures, some .if2 .left),
+      omega (arith, opened .opened .ensures, some .if2 .left),
       omega (
         arith,
         start .pre .text-room,
         counts .put-counts .kept .0,
         simp length-append at (counts .put-counts .ensures .ends),
-        counts-short (start .pre) (accepted .if1 .left) (opened .count-open .ensures),
+        counts-short (start .pre) (accepted .if1 .left) (opened .opened .ensures),
       ),
     )
 
@@ -100,7 +100,7 @@ returns-3 : tie.Need-returns-3
 returns-3 c =
     let counts = c .before .before .before .before .before .before .before in
     let opened = counts .before .before in
-    reported-open (opened .before .before .if1 .left) (opened .count-open .ensures) (counts .put-counts .ensures)
+    reported-open (opened .before .before .if1 .left) (opened .opened .ensures) (counts .put-counts .ensures)
     (c .before .before .put-question .ensures)
 
 pub report-spec : {M : Type 1} → statement M
@@ -111,7 +111,7 @@ report-spec =
     put-line-requires
     same-length
     returns
-    count-open-requires
+    opened-requires
     put-counts-requires
     put-settled-requires
     same-length-2

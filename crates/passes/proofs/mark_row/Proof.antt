@@ -7,7 +7,8 @@ use Prim.Native.Nat.{_-_, _+_}
 use native.Mathlib.Omega.{arith}
 use borrow.Author.Needs.{needs}
 use Rattle.marks.specs.Shape.{Shape, IndexOf}
-use Rattle.marks.proofs.Shape.{along, shape-kept, square}
+use Rattle.marks.proofs.Shape.{along, shape-kept}
+use Rattle.promise.proofs.Standing.{square}
 use Rattle.passes.proofs.Pass.{Row, row-start, row-flagged, row-over, row-end}
 use Rattle.passes.proofs.mark_row.Statement.{statement}
 use Rattle.passes.proofs.mark_row.Tie as tie

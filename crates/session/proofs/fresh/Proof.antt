@@ -5,7 +5,7 @@ use mathlib.Core.Logic.{inl, inr, ⊎-elim}
 use native.Mathlib.Omega.{arith}
 use Rattle.promise.specs.Tell.{fresh}
 use Rattle.promise.proofs.Calls.{owed-refused, owed-done}
-use Rattle.marks.proofs.Shape.{square}
+use Rattle.promise.proofs.Standing.{square}
 use borrow.Author.Needs.{needs}
 use Rattle.session.proofs.fresh.Statement.{statement}
 use Rattle.session.proofs.fresh.Tie as tie

@@ -7,9 +7,8 @@ use Prim.Native.Nat.{_<_}
 use native.Mathlib.Omega.{arith}
 use borrow.Author.Needs.{needs}
 use Rattle.order.specs.Tables.{Sound}
-use Rattle.promise.proofs.Standing.{square-above}
+use Rattle.promise.proofs.Standing.{square-above, square}
 use Rattle.marks.proofs.Answers.{granted, denied}
-use Rattle.marks.proofs.Shape.{square}
 use Rattle.standing.proofs.first_refusal.Statement.{statement}
 use Rattle.standing.proofs.first_refusal.Tie as tie
 

@@ -10,12 +10,12 @@ use Rattle.book.proofs.writing.write.Tie as tie
 first-refusal-requires : tie.Need-first-refusal-requires
 first-refusal-requires c κs = search needs
 
-refused-requires : tie.Need-refused-requires
-refused-requires c κs = search needs
+refused-count-requires : tie.Need-refused-count-requires
+refused-count-requires c κs = search needs
 
 returns : tie.Need-returns
 returns c =
-    rw (c .refused .ensures)
+    rw (c .refused-count .ensures)
     (write-standing _ _ _ _ (c .before .before .first-refusal .ensures) (c .before .if1 .taken))
 
 -- none of the refusals 1 to 4 is due
@@ -34,4 +34,4 @@ returns-2 c = write-left _ _ _ (passed (c .before .before .before .before)) (c .
 pub write-spec : {M : Type 1} → statement M
 write-spec =
     tie.close
-    (tie.spec first-refusal-requires refused-requires returns write-book-requires same-length returns-2)
+    (tie.spec first-refusal-requires refused-count-requires returns write-book-requires same-length returns-2)

@@ -58,8 +58,8 @@ mul-if1 c = omega (arith, few (c .before .before))
 add-if1-2 : tie.Need-add-if1-2
 add-if1-2 c = omega (arith, few (c .before .before))
 
-refused-requires : tie.Need-refused-requires
-refused-requires c κs = search needs
+refused-count-requires : tie.Need-refused-count-requires
+refused-count-requires c κs = search needs
 
 same-length : tie.Need-same-length
 same-length c = search needs
@@ -67,7 +67,7 @@ same-length c = search needs
 returns : tie.Need-returns
 returns c =
     let counted = c .before .before .before .before in
-    rw (c .refused .ensures, untouched counted)
+    rw (c .refused-count .ensures, untouched counted)
     (book-short _ _ (counted .before .before .before .before .list-marked .ensures) (counted .list-marked2 .ensures) _
     (rw (untouched counted) at (c .before .if1 .taken)))
 
@@ -105,7 +105,7 @@ write-book-spec =
     add-if1
     mul-if1
     add-if1-2
-    refused-requires
+    refused-count-requires
     same-length
     returns
     write-fields-requires

@@ -1,40 +1,35 @@
--- `buffers::bytes::put_pair` meets its contract.
+-- `buffers::bytes::put_pair` meets its contract: the second byte stands behind the first.
 -- Assumes nothing.
 use mathlib.Core.Path.{refl}
 use native.Mathlib.Omega.{arith}
+use Rattle.buffers.proofs.Placing.{put-then}
 use borrow.Author.Needs.{needs}
-use lib.ListN.{length-set}
-use Rattle.buffers.proofs.Placing.{put-one, put-then, put-length}
 use Rattle.buffers.proofs.bytes.put_pair.Statement.{statement}
 use Rattle.buffers.proofs.bytes.put_pair.Tie as tie
 
 add-if1 : tie.Need-add-if1
 add-if1 c = search needs
 
-cast-out : tie.Need-cast-out
-cast-out c = search needs
+cast-put-byte : tie.Need-cast-put-byte
+cast-put-byte c = search needs
 
-slice-write-out : tie.Need-slice-write-out
-slice-write-out c = search needs
+put-byte-requires : tie.Need-put-byte-requires
+put-byte-requires c κs = search needs
 
-cast-out-2 : tie.Need-cast-out-2
-cast-out-2 c = search needs
+cast-put-byte-2 : tie.Need-cast-put-byte-2
+cast-put-byte-2 c = search needs
 
-add-out : tie.Need-add-out
-add-out c = search needs
-
-slice-write-out-2 : tie.Need-slice-write-out-2
-slice-write-out-2 c = omega (arith, length-set (c .before .args .out .now) (c .before .args .at) (c .before .args .a))
+put-byte-requires-2 : tie.Need-put-byte-requires-2
+put-byte-requires-2 c κs = search needs
 
 same-length : tie.Need-same-length
 same-length c = search needs
 
 returns : tie.Need-returns
 returns c =
-    let s = c .before .args in
-    let first = put-one {at = s .at} {out = s .out .now} (s .a) (omega arith) in
+    let first = c .before .before .before .before .before .before in
     record {
-      put = λ _. put-then first (put-one (s .b) (omega (arith, put-length first))) .placed;
+      put = λ _. put-then (first .put-byte .ensures) (c .before .before .put-byte2 .ensures) .placed;
       kept = λ short. absurd (omega arith);
     }
 
@@ -46,11 +41,10 @@ put-pair-spec =
     tie.close
     (tie.spec
     add-if1
-    cast-out
-    slice-write-out
-    cast-out-2
-    add-out
-    slice-write-out-2
+    cast-put-byte
+    put-byte-requires
+    cast-put-byte-2
+    put-byte-requires-2
     same-length
     returns
     returns-2)

@@ -1,18 +1,14 @@
 -- `buffers::numbers::count_digits` meets its contract: a digit is counted for each that was taken off.
 -- Assumes nothing.
-use mathlib.Core.Path.{_≡_, _∙_, ap}
-use mathlib.Core.List.{List, [], _∷_}
-use Prim.Native.Nat.{ℕ, _+_, _/_, _%_, _≤_}
+use mathlib.Core.Path.{_≡_, ap}
+use mathlib.Core.List.{List}
+use Prim.Native.Nat.{ℕ, _+_}
 use native.Mathlib.Omega.{arith}
-use lib.ListN.{length, length-append}
-use Rattle.buffers.specs.Decimal.{digit-0, decimal}
-use Rattle.buffers.proofs.Decimals.{decimal-one, decimal-more, decimal-longest}
+use lib.ListN.{length}
+use Rattle.buffers.specs.Decimal.{decimal}
+use Rattle.buffers.proofs.Decimals.{decimal-one, one-longer, decimal-longest}
 use Rattle.buffers.proofs.numbers.count_digits.Statement.{statement}
 use Rattle.buffers.proofs.numbers.count_digits.Tie as tie
-
-one-less : (x : ℕ) → 10 ≤ x → length (decimal x) ≡ length (decimal (x / 10)) + 1
-one-less x h =
-    ap (λ (w : List ℕ). length w) (decimal-more x h) ∙ length-append (decimal (x / 10)) ((digit-0 + x % 10) ∷ [])
 
 abbrev Inv-loop : tie.InvT-loop
 Inv-loop number count₀ rest₀ count rest = count + length (decimal rest) ≡ length (decimal number) + 1
@@ -30,7 +26,7 @@ loop-less : tie.Need-loop-less Inv-loop μ-loop
 loop-less c = omega arith
 
 loop-again : tie.Need-loop-again Inv-loop μ-loop
-loop-again c = omega (arith, one-less (c .before .loop .rest) (omega arith))
+loop-again c = omega (arith, one-longer (c .before .loop .rest) (omega arith))
 
 returns : tie.Need-returns Inv-loop μ-loop
 returns c =

@@ -4,11 +4,11 @@ use mathlib.Core.Path.{_≡_, sym, _∙_, ap}
 use mathlib.Core.List.{List, [], _∷_, _++_, append-assoc, append-nil}
 use Prim.Native.Nat.{ℕ, _+_, _-_, _/_, _%_, _<_, _≤_}
 use native.Mathlib.Omega.{arith}
-use lib.ListN.{length, set, length-append, length-set}
+use lib.ListN.{length, set, length-set}
 use Rattle.buffers.specs.Placed.{Put}
 use Rattle.buffers.specs.Decimal.{digit-0, decimal}
 use Rattle.buffers.proofs.Placing.{put-none, put-one, put-before, put-length}
-use Rattle.buffers.proofs.Decimals.{decimal-one, decimal-more, decimal-written}
+use Rattle.buffers.proofs.Decimals.{decimal-one, decimal-more, one-longer, decimal-written}
 use Rattle.buffers.proofs.numbers.put_number.Statement.{statement}
 use Rattle.buffers.proofs.numbers.put_number.Tie as tie
 
@@ -32,7 +32,6 @@ module _
     one-put more =
         let d = digit-0 + rest % 10 in
         let last = decimal-more rest more in
-        let many = ap (λ (w : List ℕ). length w) last ∙ length-append (decimal (rest / 10)) (d ∷ []) in
         let next : left - 1 + 1 ≡ left = omega (arith, room) in
         record {
           others = d ∷ h .others;
@@ -40,7 +39,7 @@ module _
               h .whole
               ∙ ap (λ (w : List ℕ). w ++ h .others) last
               ∙ append-assoc (decimal (rest / 10)) (d ∷ []) (h .others);
-          stands = omega (arith, h .stands);
+          stands = omega (arith, h .stands, one-longer rest more);
           put = put-before (h .put) (rw next at (put-one {at = left - 1} {out = out} d (omega (arith, room))));
         }
 

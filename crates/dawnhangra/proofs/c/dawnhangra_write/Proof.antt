@@ -13,8 +13,11 @@ write-requires c κs = search needs
 crossed-count-requires : tie.Need-crossed-count-requires
 crossed-count-requires c κs = search needs
 
+same-length : tie.Need-same-length
+same-length c = search needs
+
 returns : tie.Need-returns
-returns c = rw (c .crossed-count .ensures) (writes-crosses (write _ _ _) (λ o. refl) (c .before .write .ensures))
+returns c = rw (c .crossed-count .ensures) (writes-crosses (write _ _ _) (λ o. refl) (c .before .before .before .write .ensures))
 
 pub dawnhangra-write-spec : {M : Type 1} → statement M
-dawnhangra-write-spec = tie.close (tie.spec write-requires crossed-count-requires returns)
+dawnhangra-write-spec = tie.close (tie.spec write-requires crossed-count-requires same-length returns)

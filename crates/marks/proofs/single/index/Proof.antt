@@ -3,7 +3,7 @@
 use mathlib.Core.Path.{refl}
 use native.Mathlib.Omega.{arith}
 use Rattle.order.proofs.Bytes.{pair-below}
-use Rattle.marks.proofs.Shape.{square}
+use Rattle.promise.proofs.Standing.{square}
 use Rattle.marks.proofs.single.index.Statement.{statement}
 use Rattle.marks.proofs.single.index.Tie as tie
 

@@ -9,7 +9,7 @@ use native.Mathlib.Omega.{arith}
 use lib.ListN.{getD}
 use Rattle.order.specs.Tables.{isOpen, opensTo}
 use Rattle.order.proofs.Counts.{open-settled}
-use Rattle.marks.proofs.Shape.{square}
+use Rattle.promise.proofs.Standing.{square}
 use Rattle.marks.proofs.whole.count_open.Statement.{statement}
 use Rattle.marks.proofs.whole.count_open.Tie as tie
 

@@ -10,7 +10,8 @@ use lib.ListN.{set}
 use Rattle.order.specs.Tables.{mark, SameRest}
 use Rattle.order.proofs.Bytes.{pair-below, rest-refl, rest-trans}
 use Rattle.marks.specs.Shape.{Shape, IndexOf, Cleared, MadeFresh}
-use Rattle.marks.proofs.Shape.{square, stored, rest-store, shape-kept}
+use Rattle.promise.proofs.Standing.{square}
+use Rattle.marks.proofs.Shape.{stored, rest-store, shape-kept}
 use Rattle.marks.proofs.whole.fresh_marks.Statement.{statement}
 use Rattle.marks.proofs.whole.fresh_marks.Tie as tie
 

@@ -6,7 +6,8 @@ use native.Mathlib.Omega.{arith}
 use borrow.Author.Needs.{needs}
 use Rattle.order.specs.Tables.{mark}
 use Rattle.marks.specs.Shape.{IndexOf}
-use Rattle.marks.proofs.Shape.{along, tested, square}
+use Rattle.marks.proofs.Shape.{along, tested}
+use Rattle.promise.proofs.Standing.{square}
 use Rattle.passes.proofs.Pass.{Gathered, gather-start, gather-next, gather-end}
 use Rattle.passes.proofs.flags.row_flags.Statement.{statement}
 use Rattle.passes.proofs.flags.row_flags.Tie as tie

@@ -4,9 +4,9 @@ use mathlib.Core.Path.{refl, _∙_, ap}
 use mathlib.Core.Logic.{inl, inr}
 use native.Mathlib.Omega.{arith}
 use Rattle.promise.specs.Tell.{kindOf}
-use Rattle.promise.proofs.Standing.{stood}
+use Rattle.promise.proofs.Standing.{stood, square}
 use Rattle.marks.specs.Shape.{byteOf}
-use Rattle.marks.proofs.Shape.{square, shaped}
+use Rattle.marks.proofs.Shape.{shaped}
 use Rattle.passes.specs.Taken.{OpenPair}
 use Rattle.session.proofs.Takes.{no-such-class, judged-yes, judged-no, open-taken}
 use borrow.Author.Needs.{needs}

@@ -3,7 +3,7 @@
 use Prim.Native.Nat.{_≤_, _-_}
 use native.Mathlib.Omega.{arith}
 use lib.ListN.{getD}
-use Rattle.marks.proofs.Shape.{square}
+use Rattle.promise.proofs.Standing.{square}
 use Rattle.standing.proofs.Clear.{Clear, clear-none, clear-more, clear-all, small-clear}
 use Rattle.standing.proofs.sound.marks_small.Statement.{statement}
 use Rattle.standing.proofs.sound.marks_small.Tie as tie
