@@ -1,5 +1,5 @@
--- The items of a book from any place on, in terms of the bytes there, with nothing left out: one field after the other, and in a field one
--- fact after the other. And a field's refusals by its bytes, as document 01 words them.
+-- The items of a book from any place on, in terms of the bytes there, with nothing left out: one field after the other,
+-- and in a field one fact after the other. And a field's refusals by its bytes, as document 01 words them.
 -- Assumes nothing.
 use mathlib.Core.Path.{_≡_, refl}
 use mathlib.Core.Logic.{_≢_}
@@ -87,8 +87,10 @@ pub facts-step :
     ≡ Item.said p kind (getD book p 0) (getD book (p + 1) 0) (verdict (drop p book))
     ∷ factsFrom count width kind verdict (p + width) (drop (p + width) book)
 unfolding factsFrom
-facts-step count width kind verdict p book = rw (getD-drop p book 0 0, add-zero p, getD-drop p book 1 0, drop-drop width p book) refl
+facts-step count width kind verdict p book = rw
+    (getD-drop p book 0 0, add-zero p, getD-drop p book 1 0, drop-drop width p book) refl
 
-pub facts-end : (width : ℕ) (kind : Kind) (verdict : List ℕ → ℕ) (p : ℕ) (bytes : List ℕ) → factsFrom 0 width kind verdict p bytes ≡ []
+pub facts-end : (width : ℕ) (kind : Kind) (verdict : List ℕ → ℕ) (p : ℕ) (bytes : List ℕ)
+    → factsFrom 0 width kind verdict p bytes ≡ []
 unfolding factsFrom
 facts-end width kind verdict p bytes = refl

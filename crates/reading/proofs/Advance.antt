@@ -1,4 +1,5 @@
--- Facts followed one by one, and fields one by one: what is followed from here on gives what was to be followed from the start.
+-- Facts followed one by one, and fields one by one: what is followed from here on gives what was to be followed from
+-- the start.
 -- Assumes nothing.
 use mathlib.Core.Path.{_≡_, refl, sym, _∙_, ap, subst}
 use mathlib.Core.Logic.{_≢_, inl, inr}
@@ -33,14 +34,16 @@ factsLeft row book at count =
 
 -- the facts from index at on may be followed, and following them follows all
 pub record Facing
-    (row : Row) (book : List ℕ) (from size : ℕ) (s₀ : Session) (t₀ : List ℕ) (at : ℕ) (s : Session) (t : List ℕ) : Type 0 where
+    (row : Row) (book : List ℕ) (from size : ℕ) (s₀ : Session) (t₀ : List ℕ) (at : ℕ) (s : Session) (t : List ℕ) : Type
+    0 where
   pub wide : WideRow row
   pub count : ℕ
   pub whole : from + size ≡ at + count * row .width
   pub within : from + size ≤ length book
   pub stands : First (standing s t []) 0
   pub kept : length t ≡ length t₀
-  pub all : (r : Reply) (t′ : List ℕ) → Follows (factsLeft row book at count) s t r t′ → Follows (factsAt row book from size) s₀ t₀ r t′
+  pub all : (r : Reply) (t′ : List ℕ) → Follows (factsLeft row book at count) s t r t′
+      → Follows (factsAt row book from size) s₀ t₀ r t′
 
 pub facing :
     {row : Row} {book : List ℕ} {from size : ℕ} {s : Session} {t : List ℕ} → FactsReady row book from size s t
@@ -81,39 +84,44 @@ module _
     one-ready l =
         record { wide = h .wide; within = omega (arith, fits l, h .within); stands = h .stands }
 
-    module _ (l : at < from + size) {r : Reply} {t₁ : List ℕ} (part : PartFollowed (factAt row book at ∷ []) s t r t₁) where
-      abbrev facts-behind : List Item
-      facts-behind = factsLeft row book (at + row .width) (one-left l .0)
+    module _ (l : at < from + size) {r : Reply} {t₁ : List ℕ} (part : PartFollowed (factAt row book at ∷ []) s t r t₁)
+      where
+        abbrev facts-behind : List Item
+        facts-behind = factsLeft row book (at + row .width) (one-left l .0)
 
-      from-here : {q : Reply} {t′ : List ℕ} → Follows (factAt row book at ∷ facts-behind) s t q t′ → Follows (factsAt row book from size) s₀ t₀ q t′
-      from-here {q} {t′} f =
-          h .all q t′
-          (subst (λ (items : List Item). Follows items s t q t′)
-          (sym
-          (ap (factsLeft row book at) (one-left l .1)
-          ∙ facts-step (one-left l .0) (row .width) (kindOf (row .answers)) (verdictBy (row .answers) (row .verdict)) at book))
-          f)
+        from-here : {q : Reply} {t′ : List ℕ} → Follows (factAt row book at ∷ facts-behind) s t q t′
+            → Follows (factsAt row book from size) s₀ t₀ q t′
+        from-here {q} {t′} f =
+            h .all q t′
+            (subst (λ (items : List Item). Follows items s t q t′)
+            (sym
+            (ap (factsLeft row book at) (one-left l .1)
+            ∙ facts-step (one-left l .0) (row .width) (kindOf (row .answers))
+            (verdictBy (row .answers) (row .verdict)) at book))
+            f)
 
-      pub refused-here : r .number ≢ 0 → PartFollowed (factsAt row book from size) s₀ t₀ r t₁
-      refused-here ne =
-          record {
-            follows = from-here (follows-stop facts-behind r t₁ ne (factAt row book at ∷ []) s t (part .follows));
-            stands = λ z. absurd (ne z);
-          }
+        pub refused-here : r .number ≢ 0 → PartFollowed (factsAt row book from size) s₀ t₀ r t₁
+        refused-here ne =
+            record {
+              follows = from-here (follows-stop facts-behind r t₁ ne (factAt row book at ∷ []) s t (part .follows));
+              stands = λ z. absurd (ne z);
+            }
 
-      pub facing-next : r .number ≡ 0 → length t₁ ≡ length t → Facing row book from size s₀ t₀ (at + row .width) (r .session) t₁
-      facing-next z same =
-          let left = one-left l in
-          let w = rw (left .1) at (h .whole) in
-          record {
-            wide = h .wide;
-            count = left .0;
-            whole = omega (arith, suc-mul (left .0) (row .width));
-            within = h .within;
-            stands = part .stands z;
-            kept = same ∙ h .kept;
-            all = λ q t′ f. from-here (follows-on facts-behind r q t₁ t′ z (factAt row book at ∷ []) s t (part .follows) f);
-          }
+        pub facing-next : r .number ≡ 0 → length t₁ ≡ length t
+            → Facing row book from size s₀ t₀ (at + row .width) (r .session) t₁
+        facing-next z same =
+            let left = one-left l in
+            let w = rw (left .1) at (h .whole) in
+            record {
+              wide = h .wide;
+              count = left .0;
+              whole = omega (arith, suc-mul (left .0) (row .width));
+              within = h .within;
+              stands = part .stands z;
+              kept = same ∙ h .kept;
+              all = λ q t′ f. from-here
+                  (follows-on facts-behind r q t₁ t′ z (factAt row book at ∷ []) s t (part .follows) f);
+            }
 
     pub all-followed : from + size ≤ at → PartFollowed (factsAt row book from size) s₀ t₀ (accepted s) t
     all-followed l =
@@ -123,7 +131,8 @@ module _
               (subst (λ (items : List Item). Follows items s t (accepted s) t)
               (sym
               (ap (factsLeft row book at) (none (h .count) (h .whole))
-              ∙ facts-end (row .width) (kindOf (row .answers)) (verdictBy (row .answers) (row .verdict)) at (drop at book)))
+              ∙ facts-end (row .width) (kindOf (row .answers)) (verdictBy (row .answers) (row .verdict)) at
+              (drop at book)))
               (refl, refl));
           stands = λ _. h .stands;
         }
@@ -139,7 +148,8 @@ pub record Reading (book t₀ : List ℕ) (at : ℕ) (stage : Stage) (s : Sessio
   pub within : at ≤ length book
   pub kept : length t ≡ length t₀
   pub stands : stage ≡ Begun → First (standing s t []) 0
-  pub all : (r : Reply) (t′ : List ℕ) → Follows (itemsAt book stage at) s t r t′ → Follows (itemsOf book) noSession t₀ r t′
+  pub all : (r : Reply) (t′ : List ℕ) → Follows (itemsAt book stage at) s t r t′
+      → Follows (itemsOf book) noSession t₀ r t′
 
 pub reading : (book t : List ℕ) → length book ≢ 0 → Reading book t 0 Start noSession t
 reading book t some =
@@ -167,7 +177,8 @@ module _ {book t₀ : List ℕ} {at : ℕ} {stage : Stage} {s : Session} {t : Li
       items-behind = itemsAt book (stageBehind (rowOf (getD (drop at book) 0 0)) stage) (at + sizeOf (drop at book))
 
       whole :
-          (q : Reply) (t′ : List ℕ) → Follows (Item.field at stage (drop at book) ∷ saidAt book at ++ items-behind) s t q t′
+          (q : Reply) (t′ : List ℕ)
+          → Follows (Item.field at stage (drop at book) ∷ saidAt book at ++ items-behind) s t q t′
           → Follows (itemsOf book) noSession t₀ q t′
       whole q t′ f =
           h .all q t′ (subst (λ (items : List Item). Follows items s t q t′) (sym (items-field book stage at l)) f)
@@ -176,13 +187,15 @@ module _ {book t₀ : List ℕ} {at : ℕ} {stage : Stage} {s : Session} {t : Li
       book-refused ne =
           record {
             followed =
-                whole r t₁ (follows-stop items-behind r t₁ ne (Item.field at stage (drop at book) ∷ saidAt book at) s t (part .follows));
+                whole r t₁ (follows-stop items-behind r t₁ ne (Item.field at stage (drop at book) ∷ saidAt book at) s t
+                (part .follows));
           }
 
       right-here : r .number ≡ 0 → First (fieldRefusals stage (drop at book)) 0
       right-here z = go (part .follows)
         where
-          go : Follows (Item.field at stage (drop at book) ∷ saidAt book at) s t r t₁ → First (fieldRefusals stage (drop at book)) 0
+          go : Follows (Item.field at stage (drop at book) ∷ saidAt book at) s t r t₁
+              → First (fieldRefusals stage (drop at book)) 0
           go (k, first, inl (ne, e)) = absurd (ne (sym (ap (λ (x : Reply). x .number) (e .0)) ∙ z))
           go (k, first, inr (e, _)) = subst (First (fieldRefusals stage (drop at book))) e first
 
@@ -201,8 +214,10 @@ module _ {book t₀ : List ℕ} {at : ℕ} {stage : Stage} {s : Session} {t : Li
             stands = λ _. part .stands z;
             all = λ q t′ f.
                 whole q t′
-                (follows-on items-behind r q t₁ t′ z (Item.field at stage (drop at book) ∷ saidAt book at) s t (part .follows)
-                (subst (λ (stage₁ : Stage). Follows (itemsAt book stage₁ (at + sizeOf (drop at book))) (r .session) t₁ q t′)
+                (follows-on items-behind r q t₁ t′ z (Item.field at stage (drop at book) ∷ saidAt book at) s t
+                (part .follows)
+                (subst (λ (stage₁ : Stage). Follows (itemsAt book stage₁ (at + sizeOf (drop at book))) (r .session) t₁ q
+                t′)
                 (sym (stage-behind stage (drop at book) (right-here z))) f));
           })
 

@@ -32,7 +32,8 @@ length-at-requires c κs = c .loop-test .taken
 
 read-field-requires : tie.Need-read-field-requires Inv-loop μ-loop
 read-field-requires c κs =
-    let inside = c .before .before in field-ready (inside .before .loop .inv) (inside .loop-test .taken) (c .before .length-at .ensures .0)
+    let inside = c .before .before in
+    field-ready (inside .before .loop .inv) (inside .loop-test .taken) (c .before .length-at .ensures .0)
 
 same-length : tie.Need-same-length Inv-loop μ-loop
 same-length c =
@@ -57,7 +58,8 @@ next c =
     let inside = called .before .before .before in
     omega (
       arith,
-      next-within (inside .before .loop .inv) (inside .loop-test .taken) (called .read-field .ensures) (c .before .if2 .left),
+      next-within (inside .before .loop .inv) (inside .loop-test .taken) (called .read-field .ensures)
+          (c .before .if2 .left),
       called .before .before .length-at .ensures .0,
     )
 

@@ -52,7 +52,8 @@ loop-again : tie.Need-loop-again Inv-loop μ-loop
 loop-again c =
     let called = c .before .before .before .before .before .before in
     let inside = called .before .before in
-    facing-next (inside .before .loop .inv) (inside .loop-test .taken) (called .fact .ensures) (c .before .before .if1 .left)
+    facing-next (inside .before .loop .inv) (inside .loop-test .taken) (called .fact .ensures)
+    (c .before .before .if1 .left)
     (called .fact .kept .1 .1 .1 .1 .0)
 
 accepted-requires : tie.Need-accepted-requires Inv-loop μ-loop
