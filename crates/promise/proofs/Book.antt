@@ -67,17 +67,17 @@ Later book (Item.begin p n ∷ items) = ⊥
 Later book (Item.said p kind a b v ∷ items) = SaidAt book p kind a b v × Later book items
 
 -- the class count, and then the fields behind the first
-abbrev pub Counted : List ℕ → List Item → Type 0
-Counted book [] = ⊥
-Counted book (Item.field p stage bytes ∷ items) = ⊥
-Counted book (Item.begin p n ∷ items) = (p ≡ 0) × (n ≡ getD book 3 0) × PlacesRise 1 items × Later book items
-Counted book (Item.said p kind a b v ∷ items) = ⊥
+abbrev pub CountFirst : List ℕ → List Item → Type 0
+CountFirst book [] = ⊥
+CountFirst book (Item.field p stage bytes ∷ items) = ⊥
+CountFirst book (Item.begin p n ∷ items) = (p ≡ 0) × (n ≡ getD book 3 0) × PlacesRise 1 items × Later book items
+CountFirst book (Item.said p kind a b v ∷ items) = ⊥
 
 -- the first field, and where it is not refused, what it says and what stands behind it
 abbrev pub Whole : List ℕ → List Item → Type 0
 Whole book [] = ⊥
 Whole book (Item.field p stage bytes ∷ items) =
-    (p ≡ 0) × (stage ≡ Start) × (bytes ≡ book) × (First (fieldRefusals stage bytes) 0 → Counted book items)
+    (p ≡ 0) × (stage ≡ Start) × (bytes ≡ book) × (First (fieldRefusals stage bytes) 0 → CountFirst book items)
 Whole book (Item.begin p n ∷ items) = ⊥
 Whole book (Item.said p kind a b v ∷ items) = ⊥
 
@@ -238,7 +238,7 @@ items-whole (tag ∷ bytes)
     says :
         (l : Lookup) → Right Start tag (lengthOf book) l → stageBehind l Start ≡ Begun
         → First (fieldRefusals Start book) 0
-        → Counted book
+        → CountFirst book
         (fieldSays l 0 book
         ++ itemsFrom (length bytes) (stageBehind l Start) (0 + sizeOf book) (drop (sizeOf book) book))
     says l (Right.facts z _ _) e right = absurd (not-start z refl)

@@ -1,5 +1,5 @@
 -- The items of a book from any place on, in terms of the bytes there, with nothing left out: one field after the other,
--- and in a field one fact after the other. And a field's refusals by its bytes, as document 01 words them.
+-- and in a field one fact after the other.
 -- Assumes nothing.
 use mathlib.Core.Path.{_≡_, refl}
 use mathlib.Core.Logic.{_≢_}

@@ -26,7 +26,7 @@ use Rattle.promise.proofs.Fresh.{fresh-unique, fresh-there, fresh-stand
 use Rattle.promise.proofs.Taking.{leaves-keeps}
 use Rattle.promise.proofs.Tell.{tell-unique, tell-there, tell-leaves, tell-numbers}
 use Rattle.promise.proofs.Tags.{field-there, field-numbers}
-use Rattle.promise.proofs.Book.{FieldAt, field-within, ends-within, SaidAt, PlacesRise, Later, Counted, Whole, items-whole}
+use Rattle.promise.proofs.Book.{FieldAt, field-within, ends-within, SaidAt, PlacesRise, Later, CountFirst, Whole, items-whole}
 
 -- one outcome at most
 
@@ -347,7 +347,7 @@ read-run {book} {t} {r} {t′} h = go (itemsOf book) (items-whole book) (h .foll
   where
     -- behind the first field
     counted :
-        (p₀ : ℕ) (stage : Stage) (bytes : List ℕ) (items : List Item) → Counted book items
+        (p₀ : ℕ) (stage : Stage) (bytes : List ℕ) (items : List Item) → CountFirst book items
         → Follows items noSession t r t′
         → itemsOf book ≡ Item.field p₀ stage bytes ∷ items → ReadAs book t r t′
     counted p₀ stage bytes [] c f e = absurd c
