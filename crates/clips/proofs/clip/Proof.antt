@@ -12,15 +12,6 @@ use borrow.Author.Needs.{needs}
 use Rattle.clips.proofs.clip.Statement.{statement}
 use Rattle.clips.proofs.clip.Tie as tie
 
-first-refusal-requires : tie.Need-first-refusal-requires
-first-refusal-requires c κs = search needs
-
-refused-requires : tie.Need-refused-requires
-refused-requires c κs = search needs
-
-same-length : tie.Need-same-length
-same-length c = search needs
-
 returns : tie.Need-returns
 returns c =
     let tried = c .before in
@@ -36,20 +27,14 @@ take-clip-requires c κs =
     subst (λ (k : ℕ). First (standing (start .args .session) (start .args .table .now) []) k) (tried .if1 .left)
     (tried .before .first-refusal .ensures)
 
-same-length-2 : tie.Need-same-length-2
-same-length-2 c = search needs
-
-returns-2 : tie.Need-returns-2
-returns-2 c = search needs
-
 pub clip-spec : {M : Type 1} → statement M
 clip-spec =
     tie.close
     (tie.spec
-    first-refusal-requires
-    refused-requires
-    same-length
+    (λ c κs. search needs)
+    (λ c κs. search needs)
+    (λ c. search needs)
     returns
     take-clip-requires
-    same-length-2
-    returns-2)
+    (λ c. search needs)
+    (λ c. search needs))

@@ -19,15 +19,6 @@ use Rattle.clips.proofs.clip_bytes.Tie as tie
 stands : (c : tie.Else1) → Stands (c .before .before .before .before .before .args .session) (c .before .before .before .before .before .args .table .now)
 stands c = stood _ _ _ (c .before .first-refusal .ensures) (c .if1 .left)
 
-first-refusal-requires : tie.Need-first-refusal-requires
-first-refusal-requires c κs = search needs
-
-refused-requires : tie.Need-refused-requires
-refused-requires c κs = search needs
-
-same-length : tie.Need-same-length
-same-length c = search needs
-
 returns : tie.Need-returns
 returns c =
     let tried = c .before in
@@ -37,22 +28,10 @@ returns c =
     (owed-refused (clipBytes (a .session) (a .table .now) (a .played .now)) (λ k. refl)
     (standing-refused own _ _ _ (tried .before .first-refusal .ensures) (tried .if1 .taken)) (tried .if1 .taken))
 
-refused-requires-2 : tie.Need-refused-requires-2
-refused-requires-2 c κs = search needs
-
-same-length-2 : tie.Need-same-length-2
-same-length-2 c = search needs
-
 returns-2 : tie.Need-returns-2
 returns-2 c =
     let short = c .before in
     rw (c .refused2 .ensures) (bytes-misfit _ _ _ (stands (short .before .before)) (λ fit. omega (arith, short .if2 .taken, fit .enough)))
-
-refused-requires-3 : tie.Need-refused-requires-3
-refused-requires-3 c κs = search needs
-
-same-length-3 : tie.Need-same-length-3
-same-length-3 c = search needs
 
 returns-3 : tie.Need-returns-3
 returns-3 c =
@@ -60,18 +39,12 @@ returns-3 c =
     rw (c .refused3 .ensures)
     (bytes-misfit _ _ _ (stands (long .before .before .before)) (λ fit. omega (arith, long .if3 .taken, fit .few)))
 
-flags-of-requires : tie.Need-flags-of-requires
-flags-of-requires c κs = search needs
-
 take-clip-requires : tie.Need-take-clip-requires
 take-clip-requires c κs =
     let tried = c .before .before .before .before .before .before in
     let start = tried .before .before .before .before .before in
     subst (λ (k : ℕ). First (standing (start .args .session) (start .args .table .now) []) k) (tried .if1 .left)
     (tried .before .first-refusal .ensures)
-
-same-length-4 : tie.Need-same-length-4
-same-length-4 c = search needs
 
 returns-4 : tie.Need-returns-4
 returns-4 c =
@@ -86,17 +59,17 @@ pub clip-bytes-spec : {M : Type 1} → statement M
 clip-bytes-spec =
     tie.close
     (tie.spec
-    first-refusal-requires
-    refused-requires
-    same-length
+    (λ c κs. search needs)
+    (λ c κs. search needs)
+    (λ c. search needs)
     returns
-    refused-requires-2
-    same-length-2
+    (λ c κs. search needs)
+    (λ c. search needs)
     returns-2
-    refused-requires-3
-    same-length-3
+    (λ c κs. search needs)
+    (λ c. search needs)
     returns-3
-    flags-of-requires
+    (λ c κs. search needs)
     take-clip-requires
-    same-length-4
+    (λ c. search needs)
     returns-4)

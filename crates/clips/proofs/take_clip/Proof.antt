@@ -15,12 +15,6 @@ use Rattle.clips.proofs.take_clip.Tie as tie
 stands : (c : tie.Start) → Stands (c .args .session) (c .args .table .now)
 stands c = stood _ _ 0 (c .pre) refl
 
-none-beyond-requires : tie.Need-none-beyond-requires
-none-beyond-requires c κs = search needs
-
-refused-requires : tie.Need-refused-requires
-refused-requires c κs = search needs
-
 returns : tie.Need-returns
 returns c =
     let judged = c .before in
@@ -29,12 +23,6 @@ returns c =
 
 none-contradicts-requires : tie.Need-none-contradicts-requires
 none-contradicts-requires c κs = shaped (stands (c .before .before .before .before .before))
-
-refused-requires-2 : tie.Need-refused-requires-2
-refused-requires-2 c κs = search needs
-
-same-length : tie.Need-same-length
-same-length c = search needs
 
 returns-2 : tie.Need-returns-2
 returns-2 c =
@@ -50,12 +38,6 @@ non-members-requires c κs = stands (c .before .before .before .before .before .
 
 spread-requires : tie.Need-spread-requires
 spread-requires c κs = shaped (stands (c .before .before .before .before .before .before .before .before .before .before))
-
-accepted-requires : tie.Need-accepted-requires
-accepted-requires c κs = search needs
-
-same-length-2 : tie.Need-same-length-2
-same-length-2 c = search needs
 
 returns-3 : tie.Need-returns-3
 returns-3 c =
@@ -73,15 +55,15 @@ pub take-clip-spec : {M : Type 1} → statement M
 take-clip-spec =
     tie.close
     (tie.spec
-    none-beyond-requires
-    refused-requires
+    (λ c κs. search needs)
+    (λ c κs. search needs)
     returns
     none-contradicts-requires
-    refused-requires-2
-    same-length
+    (λ c κs. search needs)
+    (λ c. search needs)
     returns-2
     non-members-requires
     spread-requires
-    accepted-requires
-    same-length-2
+    (λ c κs. search needs)
+    (λ c. search needs)
     returns-3)

@@ -5,12 +5,6 @@ use borrow.Author.Needs.{needs}
 use Rattle.lines.proofs.opened.Statement.{statement}
 use Rattle.lines.proofs.opened.Tie as tie
 
-open-pairs-requires : tie.Need-open-pairs-requires
-open-pairs-requires c κs = search needs
-
-enum-known-counted : tie.Need-enum-known-counted
-enum-known-counted c = search needs
-
 enum-told : tie.Need-enum-told
 enum-told c = search needs
 
@@ -23,4 +17,4 @@ returns-2 c =
     absurd (pairs-never-refused _ _ (asked .before .before .pre) (asked .open-pairs .ensures) (c .enum-told .given .1))
 
 pub opened-spec : {M : Type 1} → statement M
-opened-spec = tie.close (tie.spec open-pairs-requires enum-known-counted enum-told returns returns-2)
+opened-spec = tie.close (tie.spec (λ c κs. search needs) (λ c. search needs) enum-told returns returns-2)

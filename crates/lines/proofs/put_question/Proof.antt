@@ -7,12 +7,6 @@ use borrow.Author.Needs.{needs}
 use Rattle.lines.proofs.put_question.Statement.{statement}
 use Rattle.lines.proofs.put_question.Tie as tie
 
-next-requires : tie.Need-next-requires
-next-requires c κs = search needs
-
-enum-known-question : tie.Need-enum-known-question
-enum-known-question c = search needs
-
 put-line-requires : tie.Need-put-line-requires
 put-line-requires c κs =
     let question = c .before .before in
@@ -26,12 +20,6 @@ put-line-requires c κs =
 
 enum-told : tie.Need-enum-told
 enum-told c = search needs
-
-enum-told-2 : tie.Need-enum-told-2
-enum-told-2 c = search needs
-
-same-length : tie.Need-same-length
-same-length c = search needs
 
 returns : tie.Need-returns
 returns c =
@@ -57,12 +45,12 @@ pub put-question-spec : {M : Type 1} → statement M
 put-question-spec =
     tie.close
     (tie.spec
-    next-requires
-    enum-known-question
+    (λ c κs. search needs)
+    (λ c. search needs)
     put-line-requires
     enum-told
-    enum-told-2
-    same-length
+    (λ c. search needs)
+    (λ c. search needs)
     returns
     returns-2
     returns-3)

@@ -6,12 +6,6 @@ use borrow.Author.Needs.{needs}
 use Rattle.lines.proofs.put_settled.Statement.{statement}
 use Rattle.lines.proofs.put_settled.Tie as tie
 
-hierarchy-requires : tie.Need-hierarchy-requires
-hierarchy-requires c κs = search needs
-
-enum-known-counted : tie.Need-enum-known-counted
-enum-known-counted c = search needs
-
 put-classes-requires : tie.Need-put-classes-requires
 put-classes-requires c κs =
     let h = c .before .before .before .before .before .before .before .before .before in
@@ -42,15 +36,6 @@ put-steps-requires c κs =
 enum-told : tie.Need-enum-told
 enum-told c = search needs
 
-same-length : tie.Need-same-length
-same-length c = search needs
-
-same-length-2 : tie.Need-same-length-2
-same-length-2 c = search needs
-
-same-length-3 : tie.Need-same-length-3
-same-length-3 c = search needs
-
 returns : tie.Need-returns
 returns c =
     let classes = c .before .before .before .before .before .before .before in
@@ -59,12 +44,6 @@ returns c =
     let start = h .before .before .before .before .before .before .before in
     settled-put (start .pre) (h .hierarchy .ensures) (counted .counted .given .1) (classes .put-classes .ensures)
     (c .before .before .put-steps .ensures)
-
-same-length-4 : tie.Need-same-length-4
-same-length-4 c = search needs
-
-same-length-5 : tie.Need-same-length-5
-same-length-5 c = search needs
 
 returns-2 : tie.Need-returns-2
 returns-2 c =
@@ -76,15 +55,15 @@ pub put-settled-spec : {M : Type 1} → statement M
 put-settled-spec =
     tie.close
     (tie.spec
-    hierarchy-requires
-    enum-known-counted
+    (λ c κs. search needs)
+    (λ c. search needs)
     put-classes-requires
     put-steps-requires
     enum-told
-    same-length
-    same-length-2
-    same-length-3
+    (λ c. search needs)
+    (λ c. search needs)
+    (λ c. search needs)
     returns
-    same-length-4
-    same-length-5
+    (λ c. search needs)
+    (λ c. search needs)
     returns-2)

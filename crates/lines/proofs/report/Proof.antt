@@ -9,17 +9,11 @@ use borrow.Author.Needs.{needs}
 use Rattle.lines.proofs.report.Statement.{statement}
 use Rattle.lines.proofs.report.Tie as tie
 
-cast-put-line : tie.Need-cast-put-line
-cast-put-line c = search needs
-
 put-line-requires : tie.Need-put-line-requires
 put-line-requires c κs =
     let reply = c .before .before .before .before .before .before .before .before .args .reply in
     simp length-append
     (omega (arith, decimal-longest (reply .number) (omega arith), decimal-longest (reply .place) (omega arith)))
-
-same-length : tie.Need-same-length
-same-length c = search needs
 
 returns : tie.Need-returns
 returns c = reported-refused (c .before .before .before .before .before .if1 .taken) (c .before .before .put-line .ensures)
@@ -57,15 +51,6 @@ put-settled-requires c κs =
           );
     }
 
-same-length-2 : tie.Need-same-length-2
-same-length-2 c = search needs
-
-same-length-3 : tie.Need-same-length-3
-same-length-3 c = search needs
-
-same-length-4 : tie.Need-same-length-4
-same-length-4 c = search needs
-
 returns-2 : tie.Need-returns-2
 returns-2 c =
     let settled = c .before .before .before .before .before .before in
@@ -93,9 +78,6 @@ put-question-requires c κs =
       ),
     )
 
-same-length-5 : tie.Need-same-length-5
-same-length-5 c = search needs
-
 returns-3 : tie.Need-returns-3
 returns-3 c =
     let counts = c .before .before .before .before .before .before .before in
@@ -107,17 +89,17 @@ pub report-spec : {M : Type 1} → statement M
 report-spec =
     tie.close
     (tie.spec
-    cast-put-line
+    (λ c. search needs)
     put-line-requires
-    same-length
+    (λ c. search needs)
     returns
     opened-requires
     put-counts-requires
     put-settled-requires
-    same-length-2
-    same-length-3
-    same-length-4
+    (λ c. search needs)
+    (λ c. search needs)
+    (λ c. search needs)
     returns-2
     put-question-requires
-    same-length-5
+    (λ c. search needs)
     returns-3)

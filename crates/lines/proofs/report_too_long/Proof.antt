@@ -7,9 +7,6 @@ use borrow.Author.Needs.{needs}
 use Rattle.lines.proofs.report_too_long.Statement.{statement}
 use Rattle.lines.proofs.report_too_long.Tie as tie
 
-cast-put-line : tie.Need-cast-put-line
-cast-put-line c = search needs
-
 put-line-requires : tie.Need-put-line-requires
 put-line-requires c κs =
     simp length-append
@@ -19,11 +16,5 @@ put-line-requires c κs =
       decimal-written 32768 .short 5 (omega arith) (omega arith),
     ))
 
-same-length : tie.Need-same-length
-same-length c = search needs
-
-returns : tie.Need-returns
-returns c = search needs
-
 pub report-too-long-spec : {M : Type 1} → statement M
-report-too-long-spec = tie.close (tie.spec cast-put-line put-line-requires same-length returns)
+report-too-long-spec = tie.close (tie.spec (λ c. search needs) put-line-requires (λ c. search needs) (λ c. search needs))

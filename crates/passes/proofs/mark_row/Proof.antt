@@ -47,12 +47,6 @@ element-copy-out-if1 c = omega (arith, shape (c .before) .few)
 slice-write-table : tie.Need-slice-write-table Inv-loop μ-loop
 slice-write-table c = let l = c .before .before .before in omega (arith, here l .below, shape l .room)
 
-add-y : tie.Need-add-y Inv-loop μ-loop
-add-y c = search needs
-
-loop-less : tie.Need-loop-less Inv-loop μ-loop
-loop-less c = omega arith
-
 loop-again : tie.Need-loop-again Inv-loop μ-loop
 loop-again c =
     let l = c .before .before .before in
@@ -80,8 +74,8 @@ mark-row-spec =
     slice-read-old
     element-copy-out-if1
     slice-write-table
-    add-y
-    loop-less
+    (λ c. search needs)
+    (λ c. omega arith)
     loop-again
     same-length
     returns)

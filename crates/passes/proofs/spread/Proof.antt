@@ -28,12 +28,6 @@ mark-row-requires c κs =
     let l = c .before .before .before in
     (shape-kept (l .before .before .before .pre) (l .before .loop .inv .spread .rest), l .loop-test .taken)
 
-add-x : tie.Need-add-x Inv-loop μ-loop
-add-x c = search needs
-
-loop-less : tie.Need-loop-less Inv-loop μ-loop
-loop-less c = omega arith
-
 loop-again : tie.Need-loop-again Inv-loop μ-loop
 loop-again c =
     let l = c .before .before in
@@ -58,8 +52,8 @@ spread-spec =
     loop-holds
     element-copy-out-if1
     mark-row-requires
-    add-x
-    loop-less
+    (λ c. search needs)
+    (λ c. omega arith)
     loop-again
     same-length
     returns)

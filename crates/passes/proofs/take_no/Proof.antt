@@ -5,18 +5,6 @@ use Rattle.passes.proofs.Passes.{no-taken}
 use Rattle.passes.proofs.take_no.Statement.{statement}
 use Rattle.passes.proofs.take_no.Tie as tie
 
-row-flags-requires : tie.Need-row-flags-requires
-row-flags-requires c κs = search needs
-
-column-flags-requires : tie.Need-column-flags-requires
-column-flags-requires c κs = search needs
-
-spread-requires : tie.Need-spread-requires
-spread-requires c κs = search needs
-
-same-length : tie.Need-same-length
-same-length c = search needs
-
 returns : tie.Need-returns
 returns c =
     let passed = c .before .before in
@@ -27,4 +15,4 @@ returns c =
 
 pub take-no-spec : {M : Type 1} → statement M
 take-no-spec =
-    tie.close (tie.spec row-flags-requires column-flags-requires spread-requires same-length returns)
+    tie.close (tie.spec (λ c κs. search needs) (λ c κs. search needs) (λ c κs. search needs) (λ c. search needs) returns)

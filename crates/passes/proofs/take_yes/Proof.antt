@@ -7,24 +7,6 @@ use Rattle.passes.proofs.Passes.{yes-taken}
 use Rattle.passes.proofs.take_yes.Statement.{statement}
 use Rattle.passes.proofs.take_yes.Tie as tie
 
-column-flags-requires : tie.Need-column-flags-requires
-column-flags-requires c κs = search needs
-
-row-flags-requires : tie.Need-row-flags-requires
-row-flags-requires c κs = search needs
-
-row-flags-requires-2 : tie.Need-row-flags-requires-2
-row-flags-requires-2 c κs = search needs
-
-column-flags-requires-2 : tie.Need-column-flags-requires-2
-column-flags-requires-2 c κs = search needs
-
-spread-requires : tie.Need-spread-requires
-spread-requires c κs = search needs
-
-spread-requires-2 : tie.Need-spread-requires-2
-spread-requires-2 c κs = search needs
-
 spread-requires-3 : tie.Need-spread-requires-3
 spread-requires-3 c κs =
     let two = c .before .before .before .before .before in
@@ -32,9 +14,6 @@ spread-requires-3 c κs =
     let under-a = one .before .before .before .before .before .before .before .before .before .before in
     shape-kept (under-a .before .before .before .pre .shape)
     (rest-trans (one .spread .ensures .rest) (two .spread2 .ensures .rest))
-
-same-length : tie.Need-same-length
-same-length c = search needs
 
 returns : tie.Need-returns
 returns c =
@@ -53,12 +32,12 @@ pub take-yes-spec : {M : Type 1} → statement M
 take-yes-spec =
     tie.close
     (tie.spec
-    column-flags-requires
-    row-flags-requires
-    row-flags-requires-2
-    column-flags-requires-2
-    spread-requires
-    spread-requires-2
+    (λ c κs. search needs)
+    (λ c κs. search needs)
+    (λ c κs. search needs)
+    (λ c κs. search needs)
+    (λ c κs. search needs)
+    (λ c κs. search needs)
     spread-requires-3
-    same-length
+    (λ c. search needs)
     returns)

@@ -8,9 +8,6 @@ use borrow.Author.Needs.{needs}
 use Rattle.print.proofs.answer.Statement.{statement}
 use Rattle.print.proofs.answer.Tie as tie
 
-read-requires : tie.Need-read-requires
-read-requires c κs = search needs
-
 mul-marks : tie.Need-mul-marks
 mul-marks c = omega (arith, few-marks (c .before .before .before .read .ensures))
 
@@ -32,18 +29,6 @@ report-requires c κs =
       text-room = s .pre .text-room;
     }
 
-same-length : tie.Need-same-length
-same-length c = search needs
-
-same-length-2 : tie.Need-same-length-2
-same-length-2 c = search needs
-
-same-length-3 : tie.Need-same-length-3
-same-length-3 c = search needs
-
-same-length-4 : tie.Need-same-length-4
-same-length-4 c = search needs
-
 returns : tie.Need-returns
 returns c =
     let h = c .before .before .before .before .before .before .before .before .before .before .before .before .before .before .read in
@@ -58,13 +43,13 @@ pub answer-spec : {M : Type 1} → statement M
 answer-spec =
     tie.close
     (tie.spec
-    read-requires
+    (λ c κs. search needs)
     mul-marks
     slice-reshare-prefix-report
     slice-aggregate-report
     report-requires
-    same-length
-    same-length-2
-    same-length-3
-    same-length-4
+    (λ c. search needs)
+    (λ c. search needs)
+    (λ c. search needs)
+    (λ c. search needs)
     returns)

@@ -19,18 +19,6 @@ abbrev μ-loop : tie.MeasureT-loop
 loop-holds : tie.Need-loop-holds Inv-loop μ-loop
 loop-holds c = gather-start refl
 
-flag-at-requires : tie.Need-flag-at-requires Inv-loop μ-loop
-flag-at-requires c κs = omega arith
-
-array-write-played : tie.Need-array-write-played Inv-loop μ-loop
-array-write-played c = omega arith
-
-add-class : tie.Need-add-class Inv-loop μ-loop
-add-class c = omega arith
-
-loop-less : tie.Need-loop-less Inv-loop μ-loop
-loop-less c = omega arith
-
 loop-again : tie.Need-loop-again Inv-loop μ-loop
 loop-again c =
     gather-next (omega arith) (c .before .loop-test .taken) (c .before .before .loop .inv)
@@ -48,9 +36,9 @@ clip-at-spec =
     Inv-loop
     μ-loop
     loop-holds
-    flag-at-requires
-    array-write-played
-    add-class
-    loop-less
+    (λ c κs. omega arith)
+    (λ c. omega arith)
+    (λ c. omega arith)
+    (λ c. omega arith)
     loop-again
     returns)

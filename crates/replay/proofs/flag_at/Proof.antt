@@ -15,15 +15,6 @@ returns c =
     let a = c .before .args in
     flag-behind (a .flags .now) (128 * a .k + a .class) (omega arith) ∙ sym (getD-drop (128 * a .k) (a .flags .now) (a .class) false)
 
-mul-at : tie.Need-mul-at
-mul-at c = search needs
-
-add-at : tie.Need-add-at
-add-at c = search needs
-
-shared-slice-read-result : tie.Need-shared-slice-read-result
-shared-slice-read-result c = search needs
-
 returns-2 : tie.Need-returns-2
 returns-2 c =
     let a = c .before .before .before .args in
@@ -36,4 +27,4 @@ returns-3 c =
 
 pub flag-at-spec : {M : Type 1} → statement M
 flag-at-spec =
-    tie.close (tie.spec returns mul-at add-at shared-slice-read-result returns-2 returns-3)
+    tie.close (tie.spec returns (λ c. search needs) (λ c. search needs) (λ c. search needs) returns-2 returns-3)

@@ -17,12 +17,6 @@ Inv-loop classes table₀ numbers flags session₀ i₀ i-end table session i =
 abbrev μ-loop : tie.MeasureT-loop
 μ-loop classes table₀ numbers flags session₀ i₀ i-end table session i = i-end - i
 
-fresh-requires : tie.Need-fresh-requires Inv-loop μ-loop
-fresh-requires c κs = search needs
-
-same-length : tie.Need-same-length Inv-loop μ-loop
-same-length c = search needs
-
 returns : tie.Need-returns Inv-loop μ-loop
 returns c =
     let first = c .before .before .before .before in
@@ -35,26 +29,11 @@ returns c =
 loop-holds : tie.Need-loop-holds Inv-loop μ-loop
 loop-holds c = (omega arith, refl, refl, none-made _ _ _ _)
 
-make-requires : tie.Need-make-requires Inv-loop μ-loop
-make-requires c κs = omega arith
-
-add-i : tie.Need-add-i Inv-loop μ-loop
-add-i c = omega arith
-
-loop-less : tie.Need-loop-less Inv-loop μ-loop
-loop-less c = omega arith
-
 loop-again : tie.Need-loop-again Inv-loop μ-loop
 loop-again c =
     let made = c .before .before .before in
     let passing = made .before .before .before in
     (omega arith, passing .loop .inv .1, omega arith, one-more _ _ _ (passing .loop .inv .3) (made .make .ensures))
-
-accepted-requires : tie.Need-accepted-requires Inv-loop μ-loop
-accepted-requires c κs = search needs
-
-same-length-2 : tie.Need-same-length-2 Inv-loop μ-loop
-same-length-2 c = search needs
 
 returns-2 : tie.Need-returns-2 Inv-loop μ-loop
 returns-2 c =
@@ -87,14 +66,14 @@ replay-spec =
     (tie.spec
     Inv-loop
     μ-loop
-    fresh-requires
-    same-length
+    (λ c κs. search needs)
+    (λ c. search needs)
     returns
     loop-holds
-    make-requires
-    add-i
-    loop-less
+    (λ c κs. omega arith)
+    (λ c. omega arith)
+    (λ c. omega arith)
     loop-again
-    accepted-requires
-    same-length-2
+    (λ c κs. search needs)
+    (λ c. search needs)
     returns-2)

@@ -10,22 +10,10 @@ use borrow.Author.Needs.{needs}
 use Rattle.session.proofs.fresh.Statement.{statement}
 use Rattle.session.proofs.fresh.Tie as tie
 
-no-session-requires : tie.Need-no-session-requires
-no-session-requires c κs = search needs
-
-refused-requires : tie.Need-refused-requires
-refused-requires c κs = search needs
-
 returns : tie.Need-returns
 returns c =
     rw (c .refused .ensures, c .before .no-session .ensures)
     (owed-refused (fresh _ _) (λ k. refl) (inl (inl (c .before .before .if1 .taken), refl)) (λ z. omega arith))
-
-no-session-requires-2 : tie.Need-no-session-requires-2
-no-session-requires-2 c κs = search needs
-
-refused-requires-2 : tie.Need-refused-requires-2
-refused-requires-2 c κs = search needs
 
 returns-2 : tie.Need-returns-2
 returns-2 c =
@@ -35,12 +23,6 @@ returns-2 c =
 mul-if3 : tie.Need-mul-if3
 mul-if3 c = omega (arith, square _ (c .if2 .left))
 
-no-session-requires-3 : tie.Need-no-session-requires-3
-no-session-requires-3 c κs = search needs
-
-refused-requires-3 : tie.Need-refused-requires-3
-refused-requires-3 c κs = search needs
-
 returns-3 : tie.Need-returns-3
 returns-3 c =
     let tried = c .before .before in
@@ -48,18 +30,6 @@ returns-3 c =
     (owed-refused (fresh _ _) (λ k. refl)
     (inr (⊎-elim (tried .before .before .if1 .left) (λ z. omega (arith, tried .before .if2 .left)), inl (tried .if3 .taken, refl)))
     (λ z. omega arith))
-
-fresh-marks-requires : tie.Need-fresh-marks-requires
-fresh-marks-requires c κs = search needs
-
-started-requires : tie.Need-started-requires
-started-requires c κs = search needs
-
-accepted-requires : tie.Need-accepted-requires
-accepted-requires c κs = search needs
-
-same-length : tie.Need-same-length
-same-length c = search needs
 
 returns-4 : tie.Need-returns-4
 returns-4 c =
@@ -81,18 +51,18 @@ pub fresh-spec : {M : Type 1} → statement M
 fresh-spec =
     tie.close
     (tie.spec
-    no-session-requires
-    refused-requires
+    (λ c κs. search needs)
+    (λ c κs. search needs)
     returns
-    no-session-requires-2
-    refused-requires-2
+    (λ c κs. search needs)
+    (λ c κs. search needs)
     returns-2
     mul-if3
-    no-session-requires-3
-    refused-requires-3
+    (λ c κs. search needs)
+    (λ c κs. search needs)
     returns-3
-    fresh-marks-requires
-    started-requires
-    accepted-requires
-    same-length
+    (λ c κs. search needs)
+    (λ c κs. search needs)
+    (λ c κs. search needs)
+    (λ c. search needs)
     returns-4)

@@ -26,9 +26,6 @@ asked s t (Ask a b) h names = owed-done (next s t) h refl names
 asked s t Done h names = owed-done (next s t) h refl names
 asked s t (Refused number place) h names = absurd names
 
-first-refusal-requires : tie.Need-first-refusal-requires
-first-refusal-requires c κs = search needs
-
 returns : tie.Need-returns
 returns c =
     owed-refused (next _ _) (λ k. refl) (c .before .first-refusal .ensures) (c .if1 .taken)
@@ -42,4 +39,4 @@ returns-2 c =
     asked _ _ (c .first-open .result) (none _ _ _ (e .before .first-refusal .ensures) (e .if1 .left)) (c .first-open .ensures)
 
 pub next-spec : {M : Type 1} → statement M
-next-spec = tie.close (tie.spec first-refusal-requires returns first-open-requires returns-2)
+next-spec = tie.close (tie.spec (λ c κs. search needs) returns first-open-requires returns-2)

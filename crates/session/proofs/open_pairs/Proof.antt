@@ -14,12 +14,6 @@ use borrow.Author.Needs.{needs}
 use Rattle.session.proofs.open_pairs.Statement.{statement}
 use Rattle.session.proofs.open_pairs.Tie as tie
 
-first-refusal-requires : tie.Need-first-refusal-requires
-first-refusal-requires c κs = search needs
-
-refused-count-requires : tie.Need-refused-count-requires
-refused-count-requires c κs = search needs
-
 returns : tie.Need-returns
 returns c =
     let tried = c .before in
@@ -40,4 +34,4 @@ returns-2 c =
 pub open-pairs-spec : {M : Type 1} → statement M
 open-pairs-spec =
     tie.close
-    (tie.spec first-refusal-requires refused-count-requires returns count-open-requires returns-2)
+    (tie.spec (λ c κs. search needs) (λ c κs. search needs) returns count-open-requires returns-2)

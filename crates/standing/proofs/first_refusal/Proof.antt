@@ -33,9 +33,6 @@ mul-pairs c = omega (arith, square _ (c .if2 .left))
 returns-3 : tie.Need-returns-3
 returns-3 c = inr (range (c .before), inl (c .if3 .taken, refl))
 
-is-sound-requires : tie.Need-is-sound-requires
-is-sound-requires c κs = search needs
-
 returns-4 : tie.Need-returns-4
 returns-4 c =
     inr (
@@ -55,9 +52,6 @@ returns-5 c =
       range (c .before .before .before .before),
       inr (λ l. omega arith, inr (sound (c .before), inl (omega arith, refl))),
     )
-
-count-open-requires : tie.Need-count-open-requires
-count-open-requires c κs = search needs
 
 returns-6 : tie.Need-returns-6
 returns-6 c =
@@ -81,10 +75,10 @@ first-refusal-spec =
     returns-2
     mul-pairs
     returns-3
-    is-sound-requires
+    (λ c κs. search needs)
     returns-4
     sub-most
     returns-5
-    count-open-requires
+    (λ c κs. search needs)
     returns-6
     returns-7)

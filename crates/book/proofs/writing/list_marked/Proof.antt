@@ -31,9 +31,6 @@ loop-holds c = (omega arith, so-far-none _)
 loop2-holds : tie.Need-loop2-holds Inv-loop2 μ-loop2 Inv-loop μ-loop
 loop2-holds c = (omega arith, along-none)
 
-is-marked-requires : tie.Need-is-marked-requires Inv-loop2 μ-loop2 Inv-loop μ-loop
-is-marked-requires c κs = search needs
-
 -- the pairs noted so far are few
 so-few : (c : tie.In-loop2 Inv-loop2 μ-loop2 Inv-loop μ-loop) → c .before .loop2 .count < 16384
 so-few c =
@@ -54,12 +51,6 @@ put-pair-requires c κs = (
 add-count : tie.Need-add-count Inv-loop2 μ-loop2 Inv-loop μ-loop
 add-count c = omega (arith, so-few (c .before .before .before .before .before .before .before))
 
-add-b : tie.Need-add-b Inv-loop2 μ-loop2 Inv-loop μ-loop
-add-b c = omega arith
-
-loop2-less : tie.Need-loop2-less Inv-loop2 μ-loop2 Inv-loop μ-loop
-loop2-less c = omega arith
-
 loop2-again : tie.Need-loop2-again Inv-loop2 μ-loop2 Inv-loop μ-loop
 loop2-again c = (
   omega arith,
@@ -72,12 +63,6 @@ loop2-again c = (
         (λ w. rw (w .1, w .2) (miss s (λ p. p .0 (w .0 .left))))) (c .if1 .came);
   },
 )
-
-add-a : tie.Need-add-a Inv-loop2 μ-loop2 Inv-loop μ-loop
-add-a c = omega arith
-
-loop-less : tie.Need-loop-less Inv-loop2 μ-loop2 Inv-loop μ-loop
-loop-less c = omega arith
 
 loop-again : tie.Need-loop-again Inv-loop2 μ-loop2 Inv-loop μ-loop
 loop-again c =
@@ -100,15 +85,15 @@ list-marked-spec =
     μ-loop
     loop-holds
     loop2-holds
-    is-marked-requires
+    (λ c κs. search needs)
     mul-put-pair
     put-pair-requires
     add-count
-    add-b
-    loop2-less
+    (λ c. omega arith)
+    (λ c. omega arith)
     loop2-again
-    add-a
-    loop-less
+    (λ c. omega arith)
+    (λ c. omega arith)
     loop-again
     same-length
     returns)

@@ -7,12 +7,6 @@ use borrow.Author.Needs.{needs}
 use Rattle.book.proofs.writing.write.Statement.{statement}
 use Rattle.book.proofs.writing.write.Tie as tie
 
-first-refusal-requires : tie.Need-first-refusal-requires
-first-refusal-requires c κs = search needs
-
-refused-count-requires : tie.Need-refused-count-requires
-refused-count-requires c κs = search needs
-
 returns : tie.Need-returns
 returns c =
     rw (c .refused-count .ensures)
@@ -25,13 +19,10 @@ passed c = stood _ _ _ (c .before .first-refusal .ensures) (c .if1 .left)
 write-book-requires : tie.Need-write-book-requires
 write-book-requires c κs = shaped (passed (c .before))
 
-same-length : tie.Need-same-length
-same-length c = search needs
-
 returns-2 : tie.Need-returns-2
 returns-2 c = write-left _ _ _ (passed (c .before .before .before .before)) (c .before .before .write-book .ensures)
 
 pub write-spec : {M : Type 1} → statement M
 write-spec =
     tie.close
-    (tie.spec first-refusal-requires refused-count-requires returns write-book-requires same-length returns-2)
+    (tie.spec (λ c κs. search needs) (λ c κs. search needs) returns write-book-requires (λ c. search needs) returns-2)

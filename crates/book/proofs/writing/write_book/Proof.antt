@@ -11,24 +11,6 @@ use borrow.Author.Needs.{needs}
 use Rattle.book.proofs.writing.write_book.Statement.{statement}
 use Rattle.book.proofs.writing.write_book.Tie as tie
 
-slice-relend-prefix-list-marked : tie.Need-slice-relend-prefix-list-marked
-slice-relend-prefix-list-marked c = search needs
-
-slice-aggregate-list-marked : tie.Need-slice-aggregate-list-marked
-slice-aggregate-list-marked c = search needs
-
-list-marked-requires : tie.Need-list-marked-requires
-list-marked-requires c κs = search needs
-
-slice-relend-prefix-list-marked-2 : tie.Need-slice-relend-prefix-list-marked-2
-slice-relend-prefix-list-marked-2 c = search needs
-
-slice-aggregate-list-marked-2 : tie.Need-slice-aggregate-list-marked-2
-slice-aggregate-list-marked-2 c = search needs
-
-list-marked-requires-2 : tie.Need-list-marked-requires-2
-list-marked-requires-2 c κs = search needs
-
 -- an empty part was lent to count the pairs, and then another, so nothing is written yet
 untouched :
     (c : tie.After-list-marked2)
@@ -58,12 +40,6 @@ mul-if1 c = omega (arith, few (c .before .before))
 add-if1-2 : tie.Need-add-if1-2
 add-if1-2 c = omega (arith, few (c .before .before))
 
-refused-count-requires : tie.Need-refused-count-requires
-refused-count-requires c κs = search needs
-
-same-length : tie.Need-same-length
-same-length c = search needs
-
 returns : tie.Need-returns
 returns c =
     let counted = c .before .before .before .before in
@@ -84,9 +60,6 @@ fits c =
 write-fields-requires : tie.Need-write-fields-requires
 write-fields-requires c κs = rw (untouched (c .before .before .before .before)) (fits (c .before))
 
-same-length-2 : tie.Need-same-length-2
-same-length-2 c = search needs
-
 returns-2 : tie.Need-returns-2
 returns-2 c =
     book-done (fits (c .before .before .before .before))
@@ -96,18 +69,18 @@ pub write-book-spec : {M : Type 1} → statement M
 write-book-spec =
     tie.close
     (tie.spec
-    slice-relend-prefix-list-marked
-    slice-aggregate-list-marked
-    list-marked-requires
-    slice-relend-prefix-list-marked-2
-    slice-aggregate-list-marked-2
-    list-marked-requires-2
+    (λ c. search needs)
+    (λ c. search needs)
+    (λ c κs. search needs)
+    (λ c. search needs)
+    (λ c. search needs)
+    (λ c κs. search needs)
     add-if1
     mul-if1
     add-if1-2
-    refused-count-requires
-    same-length
+    (λ c κs. search needs)
+    (λ c. search needs)
     returns
     write-fields-requires
-    same-length-2
+    (λ c. search needs)
     returns-2)

@@ -16,12 +16,6 @@ sub-list-marked c = head-fits (c .before .before .pre)
 part-list-marked-start : tie.Need-part-list-marked-start
 part-list-marked-start c = head-fits (c .before .before .pre)
 
-part-list-marked-end : tie.Need-part-list-marked-end
-part-list-marked-end c = search needs
-
-list-marked-requires : tie.Need-list-marked-requires
-list-marked-requires c κs = search needs
-
 mul-size : tie.Need-mul-size
 mul-size c =
     let p = c .before .before .before .before .before .before .pre in
@@ -46,9 +40,6 @@ add-result c =
     let start = pairs .before .before .before .before in
     omega (arith, head-fits (start .pre), contents-small (start .pre) (pairs .list-marked .ensures))
 
-same-length : tie.Need-same-length
-same-length c = search needs
-
 returns : tie.Need-returns
 returns c =
     let pairs = c .before .before .before .before .before .before in
@@ -62,10 +53,10 @@ write-field-spec =
     add-start
     sub-list-marked
     part-list-marked-start
-    part-list-marked-end
-    list-marked-requires
+    (λ c. search needs)
+    (λ c κs. search needs)
     mul-size
     write-head-requires
     add-result
-    same-length
+    (λ c. search needs)
     returns)

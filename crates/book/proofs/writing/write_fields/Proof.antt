@@ -10,9 +10,6 @@ use Rattle.book.proofs.writing.write_fields.Tie as tie
 write-head-requires : tie.Need-write-head-requires
 write-head-requires c κs = (omega (arith, front-fits (c .before .before .before .pre)), omega arith)
 
-cast-put-byte : tie.Need-cast-put-byte
-cast-put-byte c = search needs
-
 put-byte-requires : tie.Need-put-byte-requires
 put-byte-requires c κs =
     let head = c .before .before .before in
@@ -37,9 +34,6 @@ write-field-requires-2 c κs =
     (first .write-field .ensures)
     (first .write-field .kept .1 .1 .1 .1 .0 ∙ classes .put-byte .kept .0 ∙ head .write-head .kept .0)
 
-same-length : tie.Need-same-length
-same-length c = search needs
-
 returns : tie.Need-returns
 returns c =
     let first = c .before .before .before .before .before .before in
@@ -53,9 +47,9 @@ write-fields-spec =
     tie.close
     (tie.spec
     write-head-requires
-    cast-put-byte
+    (λ c. search needs)
     put-byte-requires
     write-field-requires
     write-field-requires-2
-    same-length
+    (λ c. search needs)
     returns)

@@ -74,26 +74,11 @@ loop-holds c =
 sub-left : tie.Need-sub-left Inv-loop μ-loop
 sub-left c = omega (arith, room (c .before .loop .inv))
 
-cast-out : tie.Need-cast-out Inv-loop μ-loop
-cast-out c = omega arith
-
-add-out : tie.Need-add-out Inv-loop μ-loop
-add-out c = omega arith
-
 slice-write-out : tie.Need-slice-write-out Inv-loop μ-loop
 slice-write-out c = omega (arith, room (c .before .loop .inv))
 
-loop-less : tie.Need-loop-less Inv-loop μ-loop
-loop-less c = omega arith
-
 loop-again : tie.Need-loop-again Inv-loop μ-loop
 loop-again c = one-put (c .before .loop .inv) (omega arith)
-
-cast-out-2 : tie.Need-cast-out-2 Inv-loop μ-loop
-cast-out-2 c = omega arith
-
-add-out-2 : tie.Need-add-out-2 Inv-loop μ-loop
-add-out-2 c = omega arith
 
 slice-write-out-2 : tie.Need-slice-write-out-2 Inv-loop μ-loop
 slice-write-out-2 c = omega (arith, room (c .before .loop .inv))
@@ -114,13 +99,13 @@ put-number-spec =
     add-behind
     loop-holds
     sub-left
-    cast-out
-    add-out
+    (λ c. omega arith)
+    (λ c. omega arith)
     slice-write-out
-    loop-less
+    (λ c. omega arith)
     loop-again
-    cast-out-2
-    add-out-2
+    (λ c. omega arith)
+    (λ c. omega arith)
     slice-write-out-2
     same-length
     returns)

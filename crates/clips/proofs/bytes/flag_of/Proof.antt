@@ -9,9 +9,6 @@ use Rattle.clips.proofs.Seen.{flag-read, flags-length, byte-set}
 use Rattle.clips.proofs.bytes.flag_of.Statement.{statement}
 use Rattle.clips.proofs.bytes.flag_of.Tie as tie
 
-shared-slice-read-result : tie.Need-shared-slice-read-result
-shared-slice-read-result c = omega arith
-
 returns : tie.Need-returns
 returns c =
     let start = c .before .before in
@@ -23,4 +20,4 @@ returns-2 c =
     flag-behind (flagsOf bytes) (c .before .args .class) (omega (arith, flags-length bytes))
 
 pub flag-of-spec : {M : Type 1} → statement M
-flag-of-spec = tie.close (tie.spec shared-slice-read-result returns returns-2)
+flag-of-spec = tie.close (tie.spec (λ c. omega arith) returns returns-2)

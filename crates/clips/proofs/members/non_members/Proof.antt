@@ -24,12 +24,6 @@ element-copy-out-others c = omega (arith, c .before .before .pre)
 array-write-others : tie.Need-array-write-others Inv-loop μ-loop
 array-write-others c = omega (arith, c .before .before .before .pre)
 
-add-class : tie.Need-add-class Inv-loop μ-loop
-add-class c = omega arith
-
-loop-less : tie.Need-loop-less Inv-loop μ-loop
-loop-less c = omega arith
-
 loop-again : tie.Need-loop-again Inv-loop μ-loop
 loop-again c = gather-next (c .before .before .before .pre) (c .before .loop-test .taken) (c .before .before .loop .inv) (turned _)
 
@@ -45,7 +39,7 @@ non-members-spec =
     loop-holds
     element-copy-out-others
     array-write-others
-    add-class
-    loop-less
+    (λ c. omega arith)
+    (λ c. omega arith)
     loop-again
     returns)

@@ -26,20 +26,11 @@ loop-holds c = none
 element-copy-out-if1 : tie.Need-element-copy-out-if1 Inv-loop μ-loop
 element-copy-out-if1 c = omega (arith, c .before .before .before .pre .few)
 
-under-members-requires : tie.Need-under-members-requires Inv-loop μ-loop
-under-members-requires c κs = search needs
-
 returns : tie.Need-returns Inv-loop μ-loop
 returns c =
     never (λ h.
     denied (c .if2 .taken) (c .before .under-members .ensures)
     (one-agrees h (c .before .before .before .before .loop-test .taken) (c .before .before .if1 .taken)))
-
-add-class : tie.Need-add-class Inv-loop μ-loop
-add-class c = search needs
-
-loop-less : tie.Need-loop-less Inv-loop μ-loop
-loop-less c = omega arith
 
 loop-again : tie.Need-loop-again Inv-loop μ-loop
 loop-again c =
@@ -59,9 +50,9 @@ none-contradicts-spec =
     μ-loop
     loop-holds
     element-copy-out-if1
-    under-members-requires
+    (λ c κs. search needs)
     returns
-    add-class
-    loop-less
+    (λ c. search needs)
+    (λ c. omega arith)
     loop-again
     returns-2)

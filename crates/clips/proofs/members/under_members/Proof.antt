@@ -35,12 +35,6 @@ shared-slice-read-wrong c =
 element-copy-out-wrong : tie.Need-element-copy-out-wrong Inv-loop μ-loop
 element-copy-out-wrong c = omega (arith, c .before .before .before .before .before .pre .0 .few)
 
-add-above : tie.Need-add-above Inv-loop μ-loop
-add-above c = omega arith
-
-loop-less : tie.Need-loop-less Inv-loop μ-loop
-loop-less c = omega arith
-
 loop-again : tie.Need-loop-again Inv-loop μ-loop
 loop-again c =
     let l = c .before .before .before in
@@ -64,7 +58,7 @@ under-members-spec =
     add-wrong
     shared-slice-read-wrong
     element-copy-out-wrong
-    add-above
-    loop-less
+    (λ c. omega arith)
+    (λ c. omega arith)
     loop-again
     returns)

@@ -5,12 +5,6 @@ use borrow.Author.Needs.{needs}
 use Rattle.dawnhangra.proofs.c.crossed_count.Statement.{statement}
 use Rattle.dawnhangra.proofs.c.crossed_count.Tie as tie
 
-enum-known-counted : tie.Need-enum-known-counted
-enum-known-counted c = search needs
-
-enum-known-counted-2 : tie.Need-enum-known-counted-2
-enum-known-counted-2 c = search needs
-
 returns : tie.Need-returns
 returns c = rw (c .before .counted .given .1) refl
 
@@ -18,4 +12,4 @@ returns-2 : tie.Need-returns-2
 returns-2 c = rw (c .before .counted2 .given .1) refl
 
 pub crossed-count-spec : {M : Type 1} → statement M
-crossed-count-spec = tie.close (tie.spec enum-known-counted enum-known-counted-2 returns returns-2)
+crossed-count-spec = tie.close (tie.spec (λ c. search needs) (λ c. search needs) returns returns-2)

@@ -5,14 +5,8 @@ use borrow.Author.Needs.{needs}
 use Rattle.dawnhangra.proofs.c.crossed_question.Statement.{statement}
 use Rattle.dawnhangra.proofs.c.crossed_question.Tie as tie
 
-enum-known-question : tie.Need-enum-known-question
-enum-known-question c = search needs
-
 enum-told : tie.Need-enum-told
 enum-told c = search needs
-
-enum-known-question-2 : tie.Need-enum-known-question-2
-enum-known-question-2 c = search needs
 
 returns : tie.Need-returns
 returns c = rw (c .before .question .given .1) refl
@@ -26,4 +20,4 @@ returns-3 c = rw (c .before .question2 .given .1) refl
 pub crossed-question-spec : {M : Type 1} → statement M
 crossed-question-spec =
     tie.close
-    (tie.spec enum-known-question enum-told enum-known-question-2 returns returns-2 returns-3)
+    (tie.spec (λ c. search needs) enum-told (λ c. search needs) returns returns-2 returns-3)

@@ -7,20 +7,8 @@ use borrow.Author.Needs.{needs}
 use Rattle.dawnhangra.proofs.c.dawnhangra_hierarchy.Statement.{statement}
 use Rattle.dawnhangra.proofs.c.dawnhangra_hierarchy.Tie as tie
 
-hierarchy-requires : tie.Need-hierarchy-requires
-hierarchy-requires c κs = search needs
-
-crossed-count-requires : tie.Need-crossed-count-requires
-crossed-count-requires c κs = search needs
-
-same-length : tie.Need-same-length
-same-length c = search needs
-
-same-length-2 : tie.Need-same-length-2
-same-length-2 c = search needs
-
 returns : tie.Need-returns
 returns c = rw (c .crossed-count .ensures) (writes-crosses (hierarchy _ _ _ _) (λ o. refl) (c .before .before .before .before .before .hierarchy .ensures))
 
 pub dawnhangra-hierarchy-spec : {M : Type 1} → statement M
-dawnhangra-hierarchy-spec = tie.close (tie.spec hierarchy-requires crossed-count-requires same-length same-length-2 returns)
+dawnhangra-hierarchy-spec = tie.close (tie.spec (λ c κs. search needs) (λ c κs. search needs) (λ c. search needs) (λ c. search needs) returns)

@@ -7,17 +7,8 @@ use borrow.Author.Needs.{needs}
 use Rattle.dawnhangra.proofs.c.dawnhangra_ladder.Statement.{statement}
 use Rattle.dawnhangra.proofs.c.dawnhangra_ladder.Tie as tie
 
-ladder-requires : tie.Need-ladder-requires
-ladder-requires c κs = search needs
-
-crossed-count-requires : tie.Need-crossed-count-requires
-crossed-count-requires c κs = search needs
-
-same-length : tie.Need-same-length
-same-length c = search needs
-
 returns : tie.Need-returns
 returns c = rw (c .crossed-count .ensures) (writes-crosses (ladder _ _ _ _ _) (λ o. refl) (c .before .before .before .ladder .ensures))
 
 pub dawnhangra-ladder-spec : {M : Type 1} → statement M
-dawnhangra-ladder-spec = tie.close (tie.spec ladder-requires crossed-count-requires same-length returns)
+dawnhangra-ladder-spec = tie.close (tie.spec (λ c κs. search needs) (λ c κs. search needs) (λ c. search needs) returns)

@@ -5,14 +5,8 @@ use borrow.Author.Needs.{needs}
 use Rattle.dawnhangra.proofs.c.dawnhangra_next.Statement.{statement}
 use Rattle.dawnhangra.proofs.c.dawnhangra_next.Tie as tie
 
-next-requires : tie.Need-next-requires
-next-requires c κs = search needs
-
-crossed-question-requires : tie.Need-crossed-question-requires
-crossed-question-requires c κs = search needs
-
 returns : tie.Need-returns
 returns c = rw (c .crossed-question .ensures) (next-crosses _ _ (c .before .next .ensures))
 
 pub dawnhangra-next-spec : {M : Type 1} → statement M
-dawnhangra-next-spec = tie.close (tie.spec next-requires crossed-question-requires returns)
+dawnhangra-next-spec = tie.close (tie.spec (λ c κs. search needs) (λ c κs. search needs) returns)

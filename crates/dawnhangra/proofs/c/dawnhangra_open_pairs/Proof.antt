@@ -5,14 +5,8 @@ use borrow.Author.Needs.{needs}
 use Rattle.dawnhangra.proofs.c.dawnhangra_open_pairs.Statement.{statement}
 use Rattle.dawnhangra.proofs.c.dawnhangra_open_pairs.Tie as tie
 
-open-pairs-requires : tie.Need-open-pairs-requires
-open-pairs-requires c κs = search needs
-
-crossed-count-requires : tie.Need-crossed-count-requires
-crossed-count-requires c κs = search needs
-
 returns : tie.Need-returns
 returns c = rw (c .crossed-count .ensures) (open-pairs-crosses _ _ (c .before .open-pairs .ensures))
 
 pub dawnhangra-open-pairs-spec : {M : Type 1} → statement M
-dawnhangra-open-pairs-spec = tie.close (tie.spec open-pairs-requires crossed-count-requires returns)
+dawnhangra-open-pairs-spec = tie.close (tie.spec (λ c κs. search needs) (λ c κs. search needs) returns)

@@ -7,17 +7,8 @@ use borrow.Author.Needs.{needs}
 use Rattle.dawnhangra.proofs.c.dawnhangra_write.Statement.{statement}
 use Rattle.dawnhangra.proofs.c.dawnhangra_write.Tie as tie
 
-write-requires : tie.Need-write-requires
-write-requires c κs = search needs
-
-crossed-count-requires : tie.Need-crossed-count-requires
-crossed-count-requires c κs = search needs
-
-same-length : tie.Need-same-length
-same-length c = search needs
-
 returns : tie.Need-returns
 returns c = rw (c .crossed-count .ensures) (writes-crosses (write _ _ _) (λ o. refl) (c .before .before .before .write .ensures))
 
 pub dawnhangra-write-spec : {M : Type 1} → statement M
-dawnhangra-write-spec = tie.close (tie.spec write-requires crossed-count-requires same-length returns)
+dawnhangra-write-spec = tie.close (tie.spec (λ c κs. search needs) (λ c κs. search needs) (λ c. search needs) returns)

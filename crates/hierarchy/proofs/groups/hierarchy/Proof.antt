@@ -7,12 +7,6 @@ use borrow.Author.Needs.{needs}
 use Rattle.hierarchy.proofs.groups.hierarchy.Statement.{statement}
 use Rattle.hierarchy.proofs.groups.hierarchy.Tie as tie
 
-first-refusal-requires : tie.Need-first-refusal-requires
-first-refusal-requires c κs = search needs
-
-refused-count-requires : tie.Need-refused-count-requires
-refused-count-requires c κs = search needs
-
 returns : tie.Need-returns
 returns c =
     rw (c .refused-count .ensures)
@@ -25,9 +19,6 @@ passed c = stood _ _ _ (c .before .first-refusal .ensures) (c .if1 .left)
 count-open-requires : tie.Need-count-open-requires
 count-open-requires c κs = shaped (passed c)
 
-refused-count-requires-2 : tie.Need-refused-count-requires-2
-refused-count-requires-2 c κs = search needs
-
 returns-2 : tie.Need-returns-2
 returns-2 c =
     rw (c .refused-count2 .ensures)
@@ -39,12 +30,6 @@ write-hierarchy-requires c κs =
     let st = passed (c .before .before .before .before) in
     record { shape = shaped st; sound = st .sound }
 
-same-length : tie.Need-same-length
-same-length c = search needs
-
-same-length-2 : tie.Need-same-length-2
-same-length-2 c = search needs
-
 returns-3 : tie.Need-returns-3
 returns-3 c =
     let settled = c .before .before .before .before .before .before .before in
@@ -55,13 +40,13 @@ pub hierarchy-spec : {M : Type 1} → statement M
 hierarchy-spec =
     tie.close
     (tie.spec
-    first-refusal-requires
-    refused-count-requires
+    (λ c κs. search needs)
+    (λ c κs. search needs)
     returns
     count-open-requires
-    refused-count-requires-2
+    (λ c κs. search needs)
     returns-2
     write-hierarchy-requires
-    same-length
-    same-length-2
+    (λ c. search needs)
+    (λ c. search needs)
     returns-3)

@@ -9,18 +9,9 @@ use borrow.Author.Needs.{needs}
 use Rattle.hierarchy.proofs.ladders.ladder.Statement.{statement}
 use Rattle.hierarchy.proofs.ladders.ladder.Tie as tie
 
-first-refusal-requires : tie.Need-first-refusal-requires
-first-refusal-requires c κs = search needs
-
-refused-count-requires : tie.Need-refused-count-requires
-refused-count-requires c κs = search needs
-
 returns : tie.Need-returns
 returns c =
     rw (c .refused-count .ensures) (ladder-standing _ _ _ _ _ _ (c .before .before .first-refusal .ensures) (c .before .if1 .taken))
-
-refused-count-requires-2 : tie.Need-refused-count-requires-2
-refused-count-requires-2 c κs = search needs
 
 -- none of the refusals 1 to 4 is due
 passed : (c : tie.Else1) → let a = c .before .before .before .before .args in Stands (a .session) (a .table .now)
@@ -30,18 +21,12 @@ returns-2 : tie.Need-returns-2
 returns-2 c =
     rw (c .refused-count2 .ensures) (ladder-no-class _ _ _ _ _ (passed (c .before .before)) (inl (c .before .if2 .taken)))
 
-refused-count-requires-3 : tie.Need-refused-count-requires-3
-refused-count-requires-3 c κs = search needs
-
 returns-3 : tie.Need-returns-3
 returns-3 c =
     rw (c .refused-count3 .ensures) (ladder-no-class _ _ _ _ _ (passed (c .before .before .before)) (inr (c .before .if3 .taken)))
 
 count-open-requires : tie.Need-count-open-requires
 count-open-requires c κs = shaped (passed (c .before .before))
-
-refused-count-requires-4 : tie.Need-refused-count-requires-4
-refused-count-requires-4 c κs = search needs
 
 returns-4 : tie.Need-returns-4
 returns-4 c =
@@ -54,9 +39,6 @@ under-requires : tie.Need-under-requires
 under-requires c κs =
     let below = c .before .before in
     (shaped (passed (below .before .before)), below .before .if2 .left, below .if3 .left)
-
-refused-count-requires-5 : tie.Need-refused-count-requires-5
-refused-count-requires-5 c κs = search needs
 
 returns-5 : tie.Need-returns-5
 returns-5 c =
@@ -78,9 +60,6 @@ write-ladder-requires c κs =
       under = granted (c .before .if5 .left) (c .before .before .under .ensures);
     }
 
-same-length : tie.Need-same-length
-same-length c = search needs
-
 returns-6 : tie.Need-returns-6
 returns-6 c =
     let up = c .before .before .before .before in
@@ -94,19 +73,19 @@ pub ladder-spec : {M : Type 1} → statement M
 ladder-spec =
     tie.close
     (tie.spec
-    first-refusal-requires
-    refused-count-requires
+    (λ c κs. search needs)
+    (λ c κs. search needs)
     returns
-    refused-count-requires-2
+    (λ c κs. search needs)
     returns-2
-    refused-count-requires-3
+    (λ c κs. search needs)
     returns-3
     count-open-requires
-    refused-count-requires-4
+    (λ c κs. search needs)
     returns-4
     under-requires
-    refused-count-requires-5
+    (λ c κs. search needs)
     returns-5
     write-ladder-requires
-    same-length
+    (λ c. search needs)
     returns-6)

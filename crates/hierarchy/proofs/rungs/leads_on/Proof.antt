@@ -5,14 +5,8 @@ use Rattle.marks.proofs.Answers.{granted, denied, never}
 use Rattle.hierarchy.proofs.rungs.leads_on.Statement.{statement}
 use Rattle.hierarchy.proofs.rungs.leads_on.Tie as tie
 
-is-direct-requires : tie.Need-is-direct-requires
-is-direct-requires c κs = search needs
-
 returns : tie.Need-returns
 returns c = never (λ h. denied (c .if1 .taken) (c .before .is-direct .ensures) (h .0))
-
-under-requires : tie.Need-under-requires
-under-requires c κs = search needs
 
 returns-2 : tie.Need-returns-2
 returns-2 c = (
@@ -21,4 +15,4 @@ returns-2 c = (
 )
 
 pub leads-on-spec : {M : Type 1} → statement M
-leads-on-spec = tie.close (tie.spec is-direct-requires returns under-requires returns-2)
+leads-on-spec = tie.close (tie.spec (λ c κs. search needs) returns (λ c κs. search needs) returns-2)

@@ -24,9 +24,6 @@ Inv-loop n table heads goal rung thirds next₀ c₀ next c = Lowest n (LeadsOn 
 abbrev μ-loop : tie.MeasureT-loop
 μ-loop n table heads goal rung thirds next₀ c₀ next c = n - c
 
-slice-aggregate-find-thirds : tie.Need-slice-aggregate-find-thirds Inv-loop μ-loop
-slice-aggregate-find-thirds c = search needs
-
 find-thirds-requires : tie.Need-find-thirds-requires Inv-loop μ-loop
 find-thirds-requires c κs =
     let p = c .before .before .before .pre in (p .0, p .1 .head .below, none-yet (p .0 .table .shape .few))
@@ -34,20 +31,11 @@ find-thirds-requires c κs =
 loop-holds : tie.Need-loop-holds Inv-loop μ-loop
 loop-holds c = lowest-none (λ z. absurd (omega arith))
 
-slice-aggregate-leads-on : tie.Need-slice-aggregate-leads-on Inv-loop μ-loop
-slice-aggregate-leads-on c = search needs
-
 leads-on-requires : tie.Need-leads-on-requires Inv-loop μ-loop
 leads-on-requires c κs =
     let found = c .before .before .before .before in
     let p = found .before .before .before .before .pre in
     (p .0, found .find-thirds .ensures, p .1 .head, p .1 .goal-below, c .before .loop-test .taken)
-
-add-c : tie.Need-add-c Inv-loop μ-loop
-add-c c = omega arith
-
-loop-less : tie.Need-loop-less Inv-loop μ-loop
-loop-less c = omega arith
 
 loop-again : tie.Need-loop-again Inv-loop μ-loop
 loop-again c =
@@ -76,12 +64,12 @@ next-rung-spec =
     (tie.spec
     Inv-loop
     μ-loop
-    slice-aggregate-find-thirds
+    (λ c. search needs)
     find-thirds-requires
     loop-holds
-    slice-aggregate-leads-on
+    (λ c. search needs)
     leads-on-requires
-    add-c
-    loop-less
+    (λ c. omega arith)
+    (λ c. omega arith)
     loop-again
     returns)

@@ -42,12 +42,6 @@ put-line-requires c κs =
       byte-short (getD (start .args .heads .now) (l .i) 0) (omega arith),
     ))
 
-add-i : tie.Need-add-i Inv-loop μ-loop
-add-i c = omega arith
-
-loop-less : tie.Need-loop-less Inv-loop μ-loop
-loop-less c = omega arith
-
 loop-again : tie.Need-loop-again Inv-loop μ-loop
 loop-again c =
     let l = c .before .before .before .before .before .before in
@@ -76,8 +70,8 @@ put-classes-spec =
     shared-slice-read-put-line
     cast-put-line
     put-line-requires
-    add-i
-    loop-less
+    (λ c. omega arith)
+    (λ c. omega arith)
     loop-again
     same-length
     returns)

@@ -60,12 +60,6 @@ put-line-requires c κs =
       byte-short (getD steps (2 * i + 1) 0) (omega arith),
     ))
 
-add-i : tie.Need-add-i Inv-loop μ-loop
-add-i c = omega arith
-
-loop-less : tie.Need-loop-less Inv-loop μ-loop
-loop-less c = omega arith
-
 loop-again : tie.Need-loop-again Inv-loop μ-loop
 loop-again c =
     let upper = c .before .before .before .before in
@@ -101,8 +95,8 @@ put-steps-spec =
     shared-slice-read-upper
     cast-upper
     put-line-requires
-    add-i
-    loop-less
+    (λ c. omega arith)
+    (λ c. omega arith)
     loop-again
     same-length
     returns)

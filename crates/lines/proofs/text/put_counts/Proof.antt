@@ -47,9 +47,6 @@ put-byte-requires c κs =
       third .put-further2 .kept .0,
     )
 
-same-length : tie.Need-same-length
-same-length c = search needs
-
 returns : tie.Need-returns
 returns c =
     let third = c .before .before .before .before .before .before in
@@ -67,5 +64,5 @@ put-counts-spec =
     put-further-requires
     put-further-requires-2
     put-byte-requires
-    same-length
+    (λ c. search needs)
     returns)

@@ -30,9 +30,6 @@ put-byte-requires c κs =
       second .put-spaced .kept .0,
     )
 
-same-length : tie.Need-same-length
-same-length c = search needs
-
 returns : tie.Need-returns
 returns c =
     let second = c .before .before .before .before .before .before in
@@ -43,4 +40,4 @@ returns c =
 pub put-line-spec : {M : Type 1} → statement M
 put-line-spec =
     tie.close
-    (tie.spec put-labelled-requires put-spaced-requires put-byte-requires same-length returns)
+    (tie.spec put-labelled-requires put-spaced-requires put-byte-requires (λ c. search needs) returns)

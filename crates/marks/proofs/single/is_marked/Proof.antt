@@ -5,14 +5,8 @@ use Rattle.marks.proofs.Shape.{tested}
 use Rattle.marks.proofs.single.is_marked.Statement.{statement}
 use Rattle.marks.proofs.single.is_marked.Tie as tie
 
-index-requires : tie.Need-index-requires
-index-requires c κs = search needs
-
-shared-slice-read-result : tie.Need-shared-slice-read-result
-shared-slice-read-result c = search needs
-
 returns : tie.Need-returns
 returns c = tested _ (c .before .before .before .args .table .now) (c .before .index .ensures)
 
 pub is-marked-spec : {M : Type 1} → statement M
-is-marked-spec = tie.close (tie.spec index-requires shared-slice-read-result returns)
+is-marked-spec = tie.close (tie.spec (λ c κs. search needs) (λ c. search needs) returns)

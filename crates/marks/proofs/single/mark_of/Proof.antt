@@ -7,12 +7,6 @@ use Rattle.marks.proofs.Shape.{reads}
 use Rattle.marks.proofs.single.mark_of.Statement.{statement}
 use Rattle.marks.proofs.single.mark_of.Tie as tie
 
-index-requires : tie.Need-index-requires
-index-requires c κs = search needs
-
-shared-slice-read-m : tie.Need-shared-slice-read-m
-shared-slice-read-m c = search needs
-
 returns : tie.Need-returns
 returns c = reads _ (c .before .before .index .ensures) ∙ c .if1 .taken
 
@@ -27,4 +21,4 @@ returns-3 c =
     omega (arith, start .pre .3, c .before .if1 .left, c .if2 .left)
 
 pub mark-of-spec : {M : Type 1} → statement M
-mark-of-spec = tie.close (tie.spec index-requires shared-slice-read-m returns returns-2 returns-3)
+mark-of-spec = tie.close (tie.spec (λ c κs. search needs) (λ c. search needs) returns returns-2 returns-3)

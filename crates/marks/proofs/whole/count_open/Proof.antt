@@ -54,12 +54,6 @@ add-count c =
     let l = c .before .before .before in
     omega (arith, l .loop .inv .1 .most, square _ (l .before .pre .few))
 
-add-i : tie.Need-add-i Inv-loop μ-loop
-add-i c = omega arith
-
-loop-less : tie.Need-loop-less Inv-loop μ-loop
-loop-less c = omega arith
-
 loop-again : tie.Need-loop-again Inv-loop μ-loop
 loop-again c =
     let l = c .before .before .before in
@@ -83,7 +77,7 @@ count-open-spec =
     loop-holds
     shared-slice-read-if1
     add-count
-    add-i
-    loop-less
+    (λ c. omega arith)
+    (λ c. omega arith)
     loop-again
     returns)

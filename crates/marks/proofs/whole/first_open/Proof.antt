@@ -59,29 +59,11 @@ rows-holds c = (
 loop-holds : tie.Need-loop-holds Inv-loop μ-loop Inv-rows μ-rows
 loop-holds c = (omega arith, c .before .rows .inv .1, c .before .rows .inv .2)
 
-index-requires : tie.Need-index-requires Inv-loop μ-loop Inv-rows μ-rows
-index-requires c κs = search needs
-
-shared-slice-read-if1 : tie.Need-shared-slice-read-if1 Inv-loop μ-loop Inv-rows μ-rows
-shared-slice-read-if1 c = omega arith
-
-add-b : tie.Need-add-b Inv-loop μ-loop Inv-rows μ-rows
-add-b c = omega arith
-
-loop-less : tie.Need-loop-less Inv-loop μ-loop Inv-rows μ-rows
-loop-less c = omega arith
-
 loop-again : tie.Need-loop-again Inv-loop μ-loop Inv-rows μ-rows
 loop-again c =
     let l = c .before .before .before .before in
     let byte = reads (l .before .before .before .before .args .table .now) (c .before .before .index .ensures) in
     (omega arith, l .loop .inv .1, next-column _ _ _ _ (l .loop .inv .2) (λ e. c .if1 .left (sym byte ∙ e)))
-
-add-a : tie.Need-add-a Inv-loop μ-loop Inv-rows μ-rows
-add-a c = omega arith
-
-rows-less : tie.Need-rows-less Inv-loop μ-loop Inv-rows μ-rows
-rows-less c = omega arith
 
 rows-again : tie.Need-rows-again Inv-loop μ-loop Inv-rows μ-rows
 rows-again c =
@@ -114,13 +96,13 @@ first-open-spec =
     μ-rows
     rows-holds
     loop-holds
-    index-requires
-    shared-slice-read-if1
-    add-b
-    loop-less
+    (λ c κs. search needs)
+    (λ c. omega arith)
+    (λ c. omega arith)
+    (λ c. omega arith)
     loop-again
-    add-a
-    rows-less
+    (λ c. omega arith)
+    (λ c. omega arith)
     rows-again
     returns
     returns-2)

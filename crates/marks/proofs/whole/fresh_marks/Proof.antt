@@ -71,19 +71,10 @@ loop-holds : tie.Need-loop-holds Inv-loop μ-loop
 loop-holds c =
     record { most = omega arith; rest = rest-refl _; on = λ a l. absurd (omega arith); off = λ a b l p. refl }
 
-index-requires : tie.Need-index-requires Inv-loop μ-loop
-index-requires c κs = search needs
-
 slice-write-table : tie.Need-slice-write-table Inv-loop μ-loop
 slice-write-table c =
     let s = shaped (c .before .before) in
     omega (arith, s .room)
-
-add-a : tie.Need-add-a Inv-loop μ-loop
-add-a c = omega arith
-
-loop-less : tie.Need-loop-less Inv-loop μ-loop
-loop-less c = omega arith
 
 loop-again : tie.Need-loop-again Inv-loop μ-loop
 loop-again c =
@@ -107,10 +98,10 @@ fresh-marks-spec =
     mul-clear
     clear-requires
     loop-holds
-    index-requires
+    (λ c κs. search needs)
     slice-write-table
-    add-a
-    loop-less
+    (λ c. omega arith)
+    (λ c. omega arith)
     loop-again
     same-length
     returns)

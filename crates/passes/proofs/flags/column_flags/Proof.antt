@@ -29,12 +29,6 @@ shared-slice-read-flags c =
 array-write-flags : tie.Need-array-write-flags Inv-loop μ-loop
 array-write-flags c = omega (arith, c .before .before .before .before .before .pre .0 .few)
 
-add-x : tie.Need-add-x Inv-loop μ-loop
-add-x c = search needs
-
-loop-less : tie.Need-loop-less Inv-loop μ-loop
-loop-less c = omega arith
-
 loop-again : tie.Need-loop-again Inv-loop μ-loop
 loop-again c =
     gather-next (c .before .before .before .before .before .pre .0 .few) (c .before .before .loop-test .taken)
@@ -53,7 +47,7 @@ column-flags-spec =
     index-requires
     shared-slice-read-flags
     array-write-flags
-    add-x
-    loop-less
+    (λ c. search needs)
+    (λ c. omega arith)
     loop-again
     returns)

@@ -41,12 +41,6 @@ shared-slice-read-flags c =
 array-write-flags : tie.Need-array-write-flags Inv-loop μ-loop
 array-write-flags c = omega (arith, c .before .before .before .before .before .pre .0 .few)
 
-add-y : tie.Need-add-y Inv-loop μ-loop
-add-y c = search needs
-
-loop-less : tie.Need-loop-less Inv-loop μ-loop
-loop-less c = omega arith
-
 loop-again : tie.Need-loop-again Inv-loop μ-loop
 loop-again c =
     gather-next (c .before .before .before .before .before .pre .0 .few) (c .before .loop-test .taken)
@@ -66,7 +60,7 @@ row-flags-spec =
     add-flags
     shared-slice-read-flags
     array-write-flags
-    add-y
-    loop-less
+    (λ c. search needs)
+    (λ c. omega arith)
     loop-again
     returns)

@@ -7,16 +7,10 @@ use borrow.Author.Needs.{needs}
 use Rattle.session.proofs.facts.judge.Statement.{statement}
 use Rattle.session.proofs.facts.judge.Tie as tie
 
-accepted-requires : tie.Need-accepted-requires
-accepted-requires c κs = search needs
-
 returns : tie.Need-returns
 returns c =
     subst⁻¹ (λ (b : Bool). Judged (c .before .before .args .session) b (c .accepted .result)) (c .before .if1 .taken)
     (c .accepted .ensures)
-
-refused-requires : tie.Need-refused-requires
-refused-requires c κs = search needs
 
 returns-2 : tie.Need-returns-2
 returns-2 c =
@@ -24,4 +18,4 @@ returns-2 c =
     (c .refused .ensures)
 
 pub judge-spec : {M : Type 1} → statement M
-judge-spec = tie.close (tie.spec accepted-requires returns refused-requires returns-2)
+judge-spec = tie.close (tie.spec (λ c κs. search needs) returns (λ c κs. search needs) returns-2)

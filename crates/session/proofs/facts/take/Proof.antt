@@ -13,15 +13,6 @@ use borrow.Author.Needs.{needs}
 use Rattle.session.proofs.facts.take.Statement.{statement}
 use Rattle.session.proofs.facts.take.Tie as tie
 
-first-refusal-requires : tie.Need-first-refusal-requires
-first-refusal-requires c κs = search needs
-
-refused-requires : tie.Need-refused-requires
-refused-requires c κs = search needs
-
-same-length : tie.Need-same-length
-same-length c = search needs
-
 returns : tie.Need-returns
 returns c =
     let tried = c .before in
@@ -39,20 +30,14 @@ take-fact-requires c κs =
     subst (λ (k : ℕ). First (standing (start .args .session) (start .args .table .now) []) k) (c .before .if1 .left)
     (c .before .before .first-refusal .ensures)
 
-same-length-2 : tie.Need-same-length-2
-same-length-2 c = search needs
-
-returns-2 : tie.Need-returns-2
-returns-2 c = search needs
-
 pub take-spec : {M : Type 1} → statement M
 take-spec =
     tie.close
     (tie.spec
-    first-refusal-requires
-    refused-requires
-    same-length
+    (λ c κs. search needs)
+    (λ c κs. search needs)
+    (λ c. search needs)
     returns
     take-fact-requires
-    same-length-2
-    returns-2)
+    (λ c. search needs)
+    (λ c. search needs))

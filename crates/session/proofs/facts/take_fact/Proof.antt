@@ -13,16 +13,10 @@ use borrow.Author.Needs.{needs}
 use Rattle.session.proofs.facts.take_fact.Statement.{statement}
 use Rattle.session.proofs.facts.take_fact.Tie as tie
 
-refused-requires : tie.Need-refused-requires
-refused-requires c κs = search needs
-
 returns : tie.Need-returns
 returns c =
     let start = c .before .before .before in
     rw (c .refused .ensures) (no-such-class (kindOf (start .args .counts)) (stood _ _ 0 (start .pre) refl) _ _ _ (inl (c .before .if1 .taken)))
-
-refused-requires-2 : tie.Need-refused-requires-2
-refused-requires-2 c κs = search needs
 
 returns-2 : tie.Need-returns-2
 returns-2 c =
@@ -37,18 +31,6 @@ mark-of-requires c κs =
 
 enum-told : tie.Need-enum-told
 enum-told c = search needs
-
-judge-requires : tie.Need-judge-requires
-judge-requires c κs = search needs
-
-enum-told-2 : tie.Need-enum-told-2
-enum-told-2 c = search needs
-
-judge-requires-2 : tie.Need-judge-requires-2
-judge-requires-2 c κs = search needs
-
-enum-told-3 : tie.Need-enum-told-3
-enum-told-3 c = search needs
 
 -- in the third arm the pair is open
 opened :
@@ -76,12 +58,6 @@ tested-requires c κs =
     let st = stood _ _ 0 (start .pre) refl in
     omega (arith, st .count, square _ (st .few), st .some)
 
-accepted-requires : tie.Need-accepted-requires
-accepted-requires c κs = search needs
-
-same-length : tie.Need-same-length
-same-length c = search needs
-
 returns-3 : tie.Need-returns-3
 returns-3 c =
     let known = c .before .before .before in
@@ -89,18 +65,12 @@ returns-3 c =
     judged-yes (kindOf (start .args .counts)) (stood _ _ 0 (start .pre) refl) _ _ (known .before .before .before .if1 .left) (known .before .before .if2 .left) _
     (known .mark-of .ensures ∙ ap byteOf (c .before .enum-told .given .1)) (c .judge .ensures)
 
-same-length-2 : tie.Need-same-length-2
-same-length-2 c = search needs
-
 returns-4 : tie.Need-returns-4
 returns-4 c =
     let known = c .before .before .before in
     let start = known .before .before .before .before .before in
     judged-no (kindOf (start .args .counts)) (stood _ _ 0 (start .pre) refl) _ _ (known .before .before .before .if1 .left) (known .before .before .if2 .left) _
     (known .mark-of .ensures ∙ ap byteOf (c .before .enum-told2 .given .1)) (c .judge2 .ensures)
-
-same-length-3 : tie.Need-same-length-3
-same-length-3 c = search needs
 
 returns-5 : tie.Need-returns-5
 returns-5 c =
@@ -115,22 +85,22 @@ pub take-fact-spec : {M : Type 1} → statement M
 take-fact-spec =
     tie.close
     (tie.spec
-    refused-requires
+    (λ c κs. search needs)
     returns
-    refused-requires-2
+    (λ c κs. search needs)
     returns-2
     mark-of-requires
     enum-told
-    judge-requires
-    enum-told-2
-    judge-requires-2
-    enum-told-3
+    (λ c κs. search needs)
+    (λ c. search needs)
+    (λ c κs. search needs)
+    (λ c. search needs)
     take-in-requires
     tested-requires
-    accepted-requires
-    same-length
+    (λ c κs. search needs)
+    (λ c. search needs)
     returns-3
-    same-length-2
+    (λ c. search needs)
     returns-4
-    same-length-3
+    (λ c. search needs)
     returns-5)

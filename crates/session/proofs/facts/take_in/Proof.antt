@@ -8,24 +8,12 @@ use borrow.Author.Needs.{needs}
 use Rattle.session.proofs.facts.take_in.Statement.{statement}
 use Rattle.session.proofs.facts.take_in.Tie as tie
 
-take-yes-requires : tie.Need-take-yes-requires
-take-yes-requires c κs = search needs
-
-take-no-requires : tie.Need-take-no-requires
-take-no-requires c κs = search needs
-
-same-length : tie.Need-same-length
-same-length c = search needs
-
 returns : tie.Need-returns
 returns c =
     let start = c .before .before .before .before .before .before in
     let a = start .args in
     subst⁻¹ (λ (b : Bool). FactTaken (a .n) (factOn (a .lower) (a .upper) b) (a .table .now) (c .before .before .take-yes .last .1 .0))
     (c .before .before .before .before .if1 .taken) (c .before .before .take-yes .ensures)
-
-same-length-2 : tie.Need-same-length-2
-same-length-2 c = search needs
 
 returns-2 : tie.Need-returns-2
 returns-2 c =
@@ -37,4 +25,4 @@ returns-2 c =
 pub take-in-spec : {M : Type 1} → statement M
 take-in-spec =
     tie.close
-    (tie.spec take-yes-requires take-no-requires same-length returns same-length-2 returns-2)
+    (tie.spec (λ c κs. search needs) (λ c κs. search needs) (λ c. search needs) returns (λ c. search needs) returns-2)

@@ -9,9 +9,6 @@ use Rattle.session.specs.Facts.{countOf}
 use Rattle.session.proofs.replies.tested.Statement.{statement}
 use Rattle.session.proofs.replies.tested.Tie as tie
 
-add-t4 : tie.Need-add-t4
-add-t4 c = search needs
-
 returns : tie.Need-returns
 returns c =
     let s = c .before .before .args .session in
@@ -23,4 +20,4 @@ returns-2 c =
     subst⁻¹ (λ (b : Bool). s ≡ tested (countOf b) s) (c .if1 .left) (rw (add-zero (s .tests)) refl)
 
 pub tested-spec : {M : Type 1} → statement M
-tested-spec = tie.close (tie.spec add-t4 returns returns-2)
+tested-spec = tie.close (tie.spec (λ c. search needs) returns returns-2)

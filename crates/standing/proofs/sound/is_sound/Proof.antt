@@ -23,14 +23,8 @@ Inv-loop n table small diagonal a₀ a = Upto n (λ k. (b : ℕ) → b < n → P
 abbrev μ-loop : tie.MeasureT-loop
 μ-loop n table small diagonal a₀ a = n - a
 
-marks-small-requires : tie.Need-marks-small-requires Inv-loop2 μ-loop2 Inv-loop μ-loop
-marks-small-requires c κs = search needs
-
 returns : tie.Need-returns Inv-loop2 μ-loop2 Inv-loop μ-loop
 returns c = never (λ h. denied (c .if1 .taken) (c .before .marks-small .ensures) (small-of h))
-
-diagonal-yes-requires : tie.Need-diagonal-yes-requires Inv-loop2 μ-loop2 Inv-loop μ-loop
-diagonal-yes-requires c κs = search needs
 
 returns-2 : tie.Need-returns-2 Inv-loop2 μ-loop2 Inv-loop μ-loop
 returns-2 c = never (λ h. denied (c .if2 .taken) (c .before .diagonal-yes .ensures) (record { at = h .diagonal }))
@@ -41,26 +35,11 @@ loop-holds c = none
 loop2-holds : tie.Need-loop2-holds Inv-loop2 μ-loop2 Inv-loop μ-loop
 loop2-holds c = none
 
-pair-stands-requires : tie.Need-pair-stands-requires Inv-loop2 μ-loop2 Inv-loop μ-loop
-pair-stands-requires c κs = search needs
-
 returns-3 : tie.Need-returns-3 Inv-loop2 μ-loop2 Inv-loop μ-loop
 returns-3 c = never (λ h. denied (c .if3 .taken) (c .before .pair-stands .ensures) (pair-of h _ _ (omega arith) (omega arith)))
 
-add-b : tie.Need-add-b Inv-loop2 μ-loop2 Inv-loop μ-loop
-add-b c = omega arith
-
-loop2-less : tie.Need-loop2-less Inv-loop2 μ-loop2 Inv-loop μ-loop
-loop2-less c = omega arith
-
 loop2-again : tie.Need-loop2-again Inv-loop2 μ-loop2 Inv-loop μ-loop
 loop2-again c = more (omega arith) (c .before .before .before .loop2 .inv) (granted (c .if3 .left) (c .before .pair-stands .ensures))
-
-add-a : tie.Need-add-a Inv-loop2 μ-loop2 Inv-loop μ-loop
-add-a c = omega arith
-
-loop-less : tie.Need-loop-less Inv-loop2 μ-loop2 Inv-loop μ-loop
-loop-less c = omega arith
 
 loop-again : tie.Need-loop-again Inv-loop2 μ-loop2 Inv-loop μ-loop
 loop-again c = more (omega arith) (c .before .before .before .loop .inv) (all (c .loop2-test .left) (c .before .loop2 .inv))
@@ -84,18 +63,18 @@ is-sound-spec =
     μ-loop2
     Inv-loop
     μ-loop
-    marks-small-requires
+    (λ c κs. search needs)
     returns
-    diagonal-yes-requires
+    (λ c κs. search needs)
     returns-2
     loop-holds
     loop2-holds
-    pair-stands-requires
+    (λ c κs. search needs)
     returns-3
-    add-b
-    loop2-less
+    (λ c. omega arith)
+    (λ c. omega arith)
     loop2-again
-    add-a
-    loop-less
+    (λ c. omega arith)
+    (λ c. omega arith)
     loop-again
     returns-4)

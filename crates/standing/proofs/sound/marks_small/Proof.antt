@@ -23,12 +23,6 @@ loop-holds c = clear-none
 shared-slice-read-wrong : tie.Need-shared-slice-read-wrong Inv-loop μ-loop
 shared-slice-read-wrong c = omega (arith, c .before .before .before .pre .room)
 
-add-i : tie.Need-add-i Inv-loop μ-loop
-add-i c = omega arith
-
-loop-less : tie.Need-loop-less Inv-loop μ-loop
-loop-less c = omega arith
-
 loop-again : tie.Need-loop-again Inv-loop μ-loop
 loop-again c = clear-more (omega arith) (c .before .before .loop .inv) (small-clear _)
 
@@ -46,7 +40,7 @@ marks-small-spec =
     mul-pairs
     loop-holds
     shared-slice-read-wrong
-    add-i
-    loop-less
+    (λ c. omega arith)
+    (λ c. omega arith)
     loop-again
     returns)

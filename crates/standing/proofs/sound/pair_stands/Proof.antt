@@ -7,25 +7,10 @@ use borrow.Author.Needs.{needs}
 use Rattle.standing.proofs.sound.pair_stands.Statement.{statement}
 use Rattle.standing.proofs.sound.pair_stands.Tie as tie
 
-index-requires : tie.Need-index-requires
-index-requires c κs = search needs
-
-shared-slice-read-if1 : tie.Need-shared-slice-read-if1
-shared-slice-read-if1 c = search needs
-
-rows-agree-requires : tie.Need-rows-agree-requires
-rows-agree-requires c κs = search needs
-
 returns : tie.Need-returns
 returns c =
     let at = c .before .before .before .index .ensures in
     yes-stands (reads (c .before .before .before .before .before .args .table .now) at ∙ c .before .if1 .taken) (c .rows-agree .ensures)
-
-shared-slice-read-if2 : tie.Need-shared-slice-read-if2
-shared-slice-read-if2 c = search needs
-
-rows-agree-requires-2 : tie.Need-rows-agree-requires-2
-rows-agree-requires-2 c κs = search needs
 
 returns-2 : tie.Need-returns-2
 returns-2 c =
@@ -41,11 +26,11 @@ pub pair-stands-spec : {M : Type 1} → statement M
 pair-stands-spec =
     tie.close
     (tie.spec
-    index-requires
-    shared-slice-read-if1
-    rows-agree-requires
+    (λ c κs. search needs)
+    (λ c. search needs)
+    (λ c κs. search needs)
     returns
-    shared-slice-read-if2
-    rows-agree-requires-2
+    (λ c. search needs)
+    (λ c κs. search needs)
     returns-2
     returns-3)

@@ -45,12 +45,6 @@ shared-slice-read-speaks-against-2 c =
 speaks-against-requires : tie.Need-speaks-against-requires Inv-loop μ-loop
 speaks-against-requires c κs = tt
 
-add-c : tie.Need-add-c Inv-loop μ-loop
-add-c c = omega arith
-
-loop-less : tie.Need-loop-less Inv-loop μ-loop
-loop-less c = omega arith
-
 loop-again : tie.Need-loop-again Inv-loop μ-loop
 loop-again c =
     let l = c .before .before .before .before in
@@ -77,7 +71,7 @@ rows-agree-spec =
     add-speaks-against-2
     shared-slice-read-speaks-against-2
     speaks-against-requires
-    add-c
-    loop-less
+    (λ c. omega arith)
+    (λ c. omega arith)
     loop-again
     returns)

@@ -8,16 +8,10 @@ use Rattle.steps.proofs.Between.{direct-step}
 use Rattle.steps.proofs.direct.is_direct.Statement.{statement}
 use Rattle.steps.proofs.direct.is_direct.Tie as tie
 
-shared-slice-read-if1 : tie.Need-shared-slice-read-if1
-shared-slice-read-if1 c = search needs
-
 returns : tie.Need-returns
 returns c =
     let p = c .before .before .before .before .before .pre in
     never (λ h. let q = p .1 .at _ (p .3) .0 (c .if1 .taken) in h .alone (q .0) (q .1))
-
-is-above-requires : tie.Need-is-above-requires
-is-above-requires c κs = search needs
 
 returns-2 : tie.Need-returns-2
 returns-2 c =
@@ -25,4 +19,4 @@ returns-2 c =
     Iff·trans (c .is-above .ensures) (direct-step (p .1) (p .2) (p .3) (c .before .if1 .left))
 
 pub is-direct-spec : {M : Type 1} → statement M
-is-direct-spec = tie.close (tie.spec shared-slice-read-if1 returns is-above-requires returns-2)
+is-direct-spec = tie.close (tie.spec (λ c. search needs) returns (λ c κs. search needs) returns-2)

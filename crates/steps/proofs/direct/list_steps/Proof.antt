@@ -29,24 +29,12 @@ abbrev μ-loop : tie.MeasureT-loop
 loop-holds : tie.Need-loop-holds Inv-loop2 μ-loop2 Inv-loop μ-loop
 loop-holds c = (omega arith, so-far-none _)
 
-is-head-requires : tie.Need-is-head-requires Inv-loop2 μ-loop2 Inv-loop μ-loop
-is-head-requires c κs = search needs
-
-add-a : tie.Need-add-a Inv-loop2 μ-loop2 Inv-loop μ-loop
-add-a c = omega arith
-
-loop-less : tie.Need-loop-less Inv-loop2 μ-loop2 Inv-loop μ-loop
-loop-less c = omega arith
-
 loop-again : tie.Need-loop-again Inv-loop2 μ-loop2 Inv-loop μ-loop
 loop-again c =
     let turn = c .before .before in
     let l = turn .before in
     let own = head-at (l .before .before .before .before .pre) (turn .loop-test .taken) in
     (omega arith, no-steps (λ p. denied (c .if1 .taken) (c .before .is-head .ensures) (own .1 p)) (l .loop .inv .1))
-
-slice-aggregate-find-thirds : tie.Need-slice-aggregate-find-thirds Inv-loop2 μ-loop2 Inv-loop μ-loop
-slice-aggregate-find-thirds c = search needs
 
 find-thirds-requires : tie.Need-find-thirds-requires Inv-loop2 μ-loop2 Inv-loop μ-loop
 find-thirds-requires c κs =
@@ -56,9 +44,6 @@ find-thirds-requires c κs =
 
 loop2-holds : tie.Need-loop2-holds Inv-loop2 μ-loop2 Inv-loop μ-loop
 loop2-holds c = (omega arith, along-none)
-
-slice-aggregate-is-direct : tie.Need-slice-aggregate-is-direct Inv-loop2 μ-loop2 Inv-loop μ-loop
-slice-aggregate-is-direct c = search needs
 
 is-direct-requires : tie.Need-is-direct-requires Inv-loop2 μ-loop2 Inv-loop μ-loop
 is-direct-requires c κs =
@@ -89,12 +74,6 @@ put-pair-requires c κs = (omega (arith, so-few (c .before .before .before .befo
 add-count : tie.Need-add-count Inv-loop2 μ-loop2 Inv-loop μ-loop
 add-count c = omega (arith, so-few (c .before .before .before .before .before .before .before))
 
-add-b : tie.Need-add-b Inv-loop2 μ-loop2 Inv-loop μ-loop
-add-b c = omega arith
-
-loop2-less : tie.Need-loop2-less Inv-loop2 μ-loop2 Inv-loop μ-loop
-loop2-less c = omega arith
-
 loop2-again : tie.Need-loop2-again Inv-loop2 μ-loop2 Inv-loop μ-loop
 loop2-again c =
     let m = c .before .before .before .before in
@@ -107,12 +86,6 @@ loop2-again c =
             (λ w. rw (w .1, w .2) (miss s (refuted (w .0 .left) direct))) (c .if2 .came);
       },
     )
-
-add-a-2 : tie.Need-add-a-2 Inv-loop2 μ-loop2 Inv-loop μ-loop
-add-a-2 c = omega arith
-
-loop-less-2 : tie.Need-loop-less-2 Inv-loop2 μ-loop2 Inv-loop μ-loop
-loop-less-2 c = omega arith
 
 loop-again-2 : tie.Need-loop-again-2 Inv-loop2 μ-loop2 Inv-loop μ-loop
 loop-again-2 c =
@@ -134,23 +107,23 @@ list-steps-spec =
     Inv-loop
     μ-loop
     loop-holds
-    is-head-requires
-    add-a
-    loop-less
+    (λ c κs. search needs)
+    (λ c. omega arith)
+    (λ c. omega arith)
     loop-again
-    slice-aggregate-find-thirds
+    (λ c. search needs)
     find-thirds-requires
     loop2-holds
-    slice-aggregate-is-direct
+    (λ c. search needs)
     is-direct-requires
     mul-put-pair
     put-pair-requires
     add-count
-    add-b
-    loop2-less
+    (λ c. omega arith)
+    (λ c. omega arith)
     loop2-again
-    add-a-2
-    loop-less-2
+    (λ c. omega arith)
+    (λ c. omega arith)
     loop-again-2
     same-length
     returns)

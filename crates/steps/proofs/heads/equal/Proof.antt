@@ -5,14 +5,8 @@ use Rattle.marks.proofs.Answers.{granted, denied, never}
 use Rattle.steps.proofs.heads.equal.Statement.{statement}
 use Rattle.steps.proofs.heads.equal.Tie as tie
 
-under-requires : tie.Need-under-requires
-under-requires c κs = search needs
-
 returns : tie.Need-returns
 returns c = never (λ h. denied (c .if1 .taken) (c .before .under .ensures) (h .0))
-
-under-requires-2 : tie.Need-under-requires-2
-under-requires-2 c κs = search needs
 
 returns-2 : tie.Need-returns-2
 returns-2 c = (
@@ -21,4 +15,4 @@ returns-2 c = (
 )
 
 pub equal-spec : {M : Type 1} → statement M
-equal-spec = tie.close (tie.spec under-requires returns under-requires-2 returns-2)
+equal-spec = tie.close (tie.spec (λ c κs. search needs) returns (λ c κs. search needs) returns-2)

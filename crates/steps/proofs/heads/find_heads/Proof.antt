@@ -37,20 +37,11 @@ abbrev μ-loop : tie.MeasureT-loop
 loop-holds : tie.Need-loop-holds Inv-loop μ-loop
 loop-holds c = record { most = omega arith; size = refl; at = λ b l. absurd (omega arith) }
 
-head-of-requires : tie.Need-head-of-requires Inv-loop μ-loop
-head-of-requires c κs = search needs
-
 cast-heads : tie.Need-cast-heads Inv-loop μ-loop
 cast-heads c = omega (arith, c .head-of .ensures .below, c .before .before .before .before .before .pre .0 .shape .few)
 
 slice-write-heads : tie.Need-slice-write-heads Inv-loop μ-loop
 slice-write-heads c = omega (arith, c .before .before .loop .inv .size)
-
-add-a : tie.Need-add-a Inv-loop μ-loop
-add-a c = omega arith
-
-loop-less : tie.Need-loop-less Inv-loop μ-loop
-loop-less c = omega arith
 
 loop-again : tie.Need-loop-again Inv-loop μ-loop
 loop-again c =
@@ -72,11 +63,11 @@ find-heads-spec =
     Inv-loop
     μ-loop
     loop-holds
-    head-of-requires
+    (λ c κs. search needs)
     cast-heads
     slice-write-heads
-    add-a
-    loop-less
+    (λ c. omega arith)
+    (λ c. omega arith)
     loop-again
     same-length
     returns)

@@ -6,9 +6,6 @@ use borrow.Author.Tests.{eq-eqb, eqb-true}
 use Rattle.steps.proofs.heads.is_head.Statement.{statement}
 use Rattle.steps.proofs.heads.is_head.Tie as tie
 
-shared-slice-read-result : tie.Need-shared-slice-read-result
-shared-slice-read-result c = search needs
-
 cast-result : tie.Need-cast-result
 cast-result c = omega (arith, c .shared-slice-known .given (c .before .args .a))
 
@@ -16,4 +13,4 @@ returns : tie.Need-returns
 returns c = (eqb-true _ _, eq-eqb _ _)
 
 pub is-head-spec : {M : Type 1} → statement M
-is-head-spec = tie.close (tie.spec shared-slice-read-result cast-result returns)
+is-head-spec = tie.close (tie.spec (λ c. search needs) cast-result returns)

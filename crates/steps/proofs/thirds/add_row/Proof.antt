@@ -37,12 +37,6 @@ shared-slice-read-thirds c =
 slice-write-thirds : tie.Need-slice-write-thirds Inv-loop μ-loop
 slice-write-thirds c = omega (arith, c .before .before .before .loop .inv .size)
 
-add-b : tie.Need-add-b Inv-loop μ-loop
-add-b c = omega arith
-
-loop-less : tie.Need-loop-less Inv-loop μ-loop
-loop-less c = omega arith
-
 loop-again : tie.Need-loop-again Inv-loop μ-loop
 loop-again c =
     let l = c .before .before .before in
@@ -66,8 +60,8 @@ add-row-spec =
     add-thirds
     shared-slice-read-thirds
     slice-write-thirds
-    add-b
-    loop-less
+    (λ c. omega arith)
+    (λ c. omega arith)
     loop-again
     same-length
     returns)

@@ -6,18 +6,6 @@ use Rattle.steps.proofs.Between.{put-back}
 use Rattle.steps.proofs.thirds.add_third.Statement.{statement}
 use Rattle.steps.proofs.thirds.add_third.Tie as tie
 
-slice-read-own : tie.Need-slice-read-own
-slice-read-own c = search needs
-
-add-row-requires : tie.Need-add-row-requires
-add-row-requires c κs = search needs
-
-slice-write-thirds : tie.Need-slice-write-thirds
-slice-write-thirds c = search needs
-
-same-length : tie.Need-same-length
-same-length c = search needs
-
 returns : tie.Need-returns
 returns c =
     let added = c .before .before .add-row in
@@ -26,4 +14,4 @@ returns c =
 
 pub add-third-spec : {M : Type 1} → statement M
 add-third-spec =
-    tie.close (tie.spec slice-read-own add-row-requires slice-write-thirds same-length returns)
+    tie.close (tie.spec (λ c. search needs) (λ c κs. search needs) (λ c. search needs) (λ c. search needs) returns)

@@ -19,9 +19,6 @@ abbrev μ-loop : tie.MeasureT-loop
 loop-holds : tie.Need-loop-holds Inv-loop μ-loop
 loop-holds c = thirds-none (c .before .before .before .pre .2)
 
-is-above-requires : tie.Need-is-above-requires Inv-loop μ-loop
-is-above-requires c κs = search needs
-
 slice-read-if2 : tie.Need-slice-read-if2 Inv-loop μ-loop
 slice-read-if2 c =
     let passing = c .before .before .before in
@@ -34,12 +31,6 @@ add-third-requires c κs =
     let l = passing .before in
     let p = l .before .before .before .before .pre in
     (p .0 .table .shape, passing .loop-test .taken, omega (arith, p .2 .room, l .loop .inv .size))
-
-add-c : tie.Need-add-c Inv-loop μ-loop
-add-c c = omega arith
-
-loop-less : tie.Need-loop-less Inv-loop μ-loop
-loop-less c = omega arith
 
 loop-again : tie.Need-loop-again Inv-loop μ-loop
 loop-again c =
@@ -65,11 +56,11 @@ find-thirds-spec =
     Inv-loop
     μ-loop
     loop-holds
-    is-above-requires
+    (λ c κs. search needs)
     slice-read-if2
     add-third-requires
-    add-c
-    loop-less
+    (λ c. omega arith)
+    (λ c. omega arith)
     loop-again
     same-length
     returns)

@@ -6,17 +6,11 @@ use Rattle.steps.proofs.HeadsFound.{head-at}
 use Rattle.steps.proofs.thirds.is_above.Statement.{statement}
 use Rattle.steps.proofs.thirds.is_above.Tie as tie
 
-under-requires : tie.Need-under-requires
-under-requires c κs = search needs
-
 returns : tie.Need-returns
 returns c = never (λ h. denied (c .if1 .taken) (c .before .under .ensures) (h .under))
 
 returns-2 : tie.Need-returns-2
 returns-2 c = never (λ h. h .differ (c .if2 .taken))
-
-is-head-requires : tie.Need-is-head-requires
-is-head-requires c κs = search needs
 
 returns-3 : tie.Need-returns-3
 returns-3 c =
@@ -32,4 +26,4 @@ returns-3 c =
     )
 
 pub is-above-spec : {M : Type 1} → statement M
-is-above-spec = tie.close (tie.spec under-requires returns returns-2 is-head-requires returns-3)
+is-above-spec = tie.close (tie.spec (λ c κs. search needs) returns returns-2 (λ c κs. search needs) returns-3)

@@ -5,14 +5,8 @@ use borrow.Author.Needs.{needs}
 use Rattle.sweep.proofs.draw.draw.Statement.{statement}
 use Rattle.sweep.proofs.draw.draw.Tie as tie
 
-mul-drawn : tie.Need-mul-drawn
-mul-drawn c = search needs
-
-rem-result : tie.Need-rem-result
-rem-result c = search needs
-
 returns : tie.Need-returns
 returns c = mod-lt _ (c .before .pre)
 
 pub draw-spec : {M : Type 1} → statement M
-draw-spec = tie.close (tie.spec mul-drawn rem-result returns)
+draw-spec = tie.close (tie.spec (λ c. search needs) (λ c. search needs) returns)

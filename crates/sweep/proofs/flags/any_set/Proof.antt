@@ -11,37 +11,16 @@ Inv-loop state₀ n played₀ class₀ state played class = class ≤ n
 abbrev μ-loop : tie.MeasureT-loop
 μ-loop state₀ n played₀ class₀ state played class = n - class
 
-loop-holds : tie.Need-loop-holds Inv-loop μ-loop
-loop-holds c = search needs
-
-draw-verdict-requires : tie.Need-draw-verdict-requires Inv-loop μ-loop
-draw-verdict-requires c κs = search needs
-
-array-write-played : tie.Need-array-write-played Inv-loop μ-loop
-array-write-played c = search needs
-
-add-class : tie.Need-add-class Inv-loop μ-loop
-add-class c = search needs
-
-loop-less : tie.Need-loop-less Inv-loop μ-loop
-loop-less c = search needs
-
-loop-again : tie.Need-loop-again Inv-loop μ-loop
-loop-again c = search needs
-
-returns : tie.Need-returns Inv-loop μ-loop
-returns c = search needs
-
 pub any-set-spec : {M : Type 1} → statement M
 any-set-spec =
     tie.close
     (tie.spec
     Inv-loop
     μ-loop
-    loop-holds
-    draw-verdict-requires
-    array-write-played
-    add-class
-    loop-less
-    loop-again
-    returns)
+    (λ c. search needs)
+    (λ c κs. search needs)
+    (λ c. search needs)
+    (λ c. search needs)
+    (λ c. search needs)
+    (λ c. search needs)
+    (λ c. search needs))

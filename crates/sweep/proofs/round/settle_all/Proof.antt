@@ -11,45 +11,18 @@ Inv-loop sizes kept₀ counter₀ end kept counter = counter ≤ end
 abbrev μ-loop : tie.MeasureT-loop
 μ-loop sizes kept₀ counter₀ end kept counter = end - counter
 
-square-requires : tie.Need-square-requires Inv-loop μ-loop
-square-requires c κs = search needs
-
-loop-holds : tie.Need-loop-holds Inv-loop μ-loop
-loop-holds c = search needs
-
-no-trouble-requires : tie.Need-no-trouble-requires Inv-loop μ-loop
-no-trouble-requires c κs = search needs
-
-next-requires : tie.Need-next-requires Inv-loop μ-loop
-next-requires c κs = search needs
-
-returns : tie.Need-returns Inv-loop μ-loop
-returns c = search needs
-
-add-counter : tie.Need-add-counter Inv-loop μ-loop
-add-counter c = search needs
-
-loop-less : tie.Need-loop-less Inv-loop μ-loop
-loop-less c = search needs
-
-loop-again : tie.Need-loop-again Inv-loop μ-loop
-loop-again c = search needs
-
-returns-2 : tie.Need-returns-2 Inv-loop μ-loop
-returns-2 c = search needs
-
 pub settle-all-spec : {M : Type 1} → statement M
 settle-all-spec =
     tie.close
     (tie.spec
     Inv-loop
     μ-loop
-    square-requires
-    loop-holds
-    no-trouble-requires
-    next-requires
-    returns
-    add-counter
-    loop-less
-    loop-again
-    returns-2)
+    (λ c κs. search needs)
+    (λ c. search needs)
+    (λ c κs. search needs)
+    (λ c κs. search needs)
+    (λ c. search needs)
+    (λ c. search needs)
+    (λ c. search needs)
+    (λ c. search needs)
+    (λ c. search needs))

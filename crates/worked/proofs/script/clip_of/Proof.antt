@@ -17,23 +17,11 @@ abbrev μ-loop : tie.MeasureT-loop
 loop-holds : tie.Need-loop-holds Inv-loop μ-loop
 loop-holds c = (refl, omega arith)
 
-shared-slice-read-class : tie.Need-shared-slice-read-class Inv-loop μ-loop
-shared-slice-read-class c = omega arith
-
 cast-class : tie.Need-cast-class Inv-loop μ-loop
 cast-class c = omega (arith, c .shared-slice-known .given (c .before .before .loop .i))
 
 array-write-played : tie.Need-array-write-played Inv-loop μ-loop
 array-write-played c = mod-lt _ (omega arith)
-
-add-i : tie.Need-add-i Inv-loop μ-loop
-add-i c = omega arith
-
-loop-less : tie.Need-loop-less Inv-loop μ-loop
-loop-less c = omega arith
-
-loop-again : tie.Need-loop-again Inv-loop μ-loop
-loop-again c = omega arith
 
 returns : tie.Need-returns Inv-loop μ-loop
 returns c = tt
@@ -45,10 +33,10 @@ clip-of-spec =
     Inv-loop
     μ-loop
     loop-holds
-    shared-slice-read-class
+    (λ c. omega arith)
     cast-class
     array-write-played
-    add-i
-    loop-less
-    loop-again
+    (λ c. omega arith)
+    (λ c. omega arith)
+    (λ c. omega arith)
     returns)

@@ -15,58 +15,10 @@ Inv-loop script table₀ session₀ lent₀ at₀ table session lent at = (lent 
 abbrev μ-loop : tie.MeasureT-loop
 μ-loop script table₀ session₀ lent₀ at₀ table session lent at = length script - at
 
-loop-holds : tie.Need-loop-holds Inv-loop μ-loop
-loop-holds c = search needs
-
-line-end-requires : tie.Need-line-end-requires Inv-loop μ-loop
-line-end-requires c κs = search needs
-
-sub-lend : tie.Need-sub-lend Inv-loop μ-loop
-sub-lend c = search needs
-
-part-lend-start : tie.Need-part-lend-start Inv-loop μ-loop
-part-lend-start c = search needs
-
-part-lend-end : tie.Need-part-lend-end Inv-loop μ-loop
-part-lend-end c = search needs
-
 lend-requires : tie.Need-lend-requires Inv-loop μ-loop
 lend-requires c κs =
     let few = c .before .before .before .before .loop .inv .0 in
     (few, sym (length-take-le _ _ few))
-
-slice-relend-prefix-follow : tie.Need-slice-relend-prefix-follow Inv-loop μ-loop
-slice-relend-prefix-follow c = search needs
-
-slice-aggregate-follow : tie.Need-slice-aggregate-follow Inv-loop μ-loop
-slice-aggregate-follow c = search needs
-
-sub-follow : tie.Need-sub-follow Inv-loop μ-loop
-sub-follow c = search needs
-
-part-follow-start : tie.Need-part-follow-start Inv-loop μ-loop
-part-follow-start c = search needs
-
-part-follow-end : tie.Need-part-follow-end Inv-loop μ-loop
-part-follow-end c = search needs
-
-follow-requires : tie.Need-follow-requires Inv-loop μ-loop
-follow-requires c κs = search needs
-
-add-at : tie.Need-add-at Inv-loop μ-loop
-add-at c = search needs
-
-loop-less : tie.Need-loop-less Inv-loop μ-loop
-loop-less c = search needs
-
-loop-again : tie.Need-loop-again Inv-loop μ-loop
-loop-again c = search needs
-
-same-length : tie.Need-same-length Inv-loop μ-loop
-same-length c = search needs
-
-returns : tie.Need-returns Inv-loop μ-loop
-returns c = search needs
 
 pub run-spec : {M : Type 1} → statement M
 run-spec =
@@ -74,20 +26,21 @@ run-spec =
     (tie.spec
     Inv-loop
     μ-loop
-    loop-holds
-    line-end-requires
-    sub-lend
-    part-lend-start
-    part-lend-end
+    (λ c κs. search needs)
+    (λ c. search needs)
+    (λ c κs. search needs)
+    (λ c. search needs)
+    (λ c. search needs)
+    (λ c. search needs)
     lend-requires
-    slice-relend-prefix-follow
-    slice-aggregate-follow
-    sub-follow
-    part-follow-start
-    part-follow-end
-    follow-requires
-    add-at
-    loop-less
-    loop-again
-    same-length
-    returns)
+    (λ c. search needs)
+    (λ c. search needs)
+    (λ c. search needs)
+    (λ c. search needs)
+    (λ c. search needs)
+    (λ c κs. search needs)
+    (λ c. search needs)
+    (λ c. search needs)
+    (λ c. search needs)
+    (λ c. search needs)
+    (λ c. search needs))
