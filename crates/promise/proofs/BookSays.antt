@@ -4,7 +4,8 @@
 use mathlib.Core.Path.{_≡_, refl, sym, _∙_, ap, ap₂, subst}
 use mathlib.Core.Logic.{_↔_, _≢_, _⊎_, inl, inr}
 use mathlib.Core.Bool.{Bool, true, false, true≢false}
-use mathlib.Core.List.{List, [], _∷_, _++_, append-nil, List·Memᴰ, List·Memᴰ·head, List·Memᴰ·tail, List·Memᴰ·not-nil, List·Memᴰ·cases-cons, List·Memᴰ·append-cases, Memᴰ·append-left, Memᴰ·append-right}
+use mathlib.Core.List.{List, [], _∷_, _++_, append-nil, List·Memᴰ, List·Memᴰ·head, List·Memᴰ·tail, List·Memᴰ·not-nil}
+use mathlib.Core.List.{List·Memᴰ·cases-cons, List·Memᴰ·append-cases, Memᴰ·append-left, Memᴰ·append-right}
 use Prim.Native.Nat.{ℕ, suc, _+_, _/_, _%_, _<_}
 use native.Mathlib.Nat.{div-add-mod', mul-mod-right}
 use native.Mathlib.Decide.{ℕ-discrete}
@@ -25,7 +26,8 @@ use Rattle.promise.specs.declared.Stage.the-variants.{Start, Begun}
 use Rattle.promise.specs.Tell.{Kind}
 use Rattle.promise.specs.Clips.{truthOf}
 use Rattle.promise.specs.Runs.{Accepted}
-use Rattle.promise.specs.Book.{TagRow, countRow, factsRow, Lookup, rowOf, lengthOf, sizeOf, fieldRefusals, Item, factsFrom, fieldSays, itemsFrom, itemsOf, factOf}
+use Rattle.promise.specs.Book.{TagRow, countRow, factsRow, Lookup, rowOf, lengthOf, sizeOf, fieldRefusals, Item}
+use Rattle.promise.specs.Book.{factsFrom, fieldSays, itemsFrom, itemsOf, factOf}
 use Rattle.promise.specs.Write.{field, PairsMarked, BookOf}
 use Rattle.promise.proofs.Read.{callsSaid}
 use Rattle.promise.proofs.Write.{book-unique}

@@ -15,7 +15,8 @@ use Rattle.order.specs.Orders.{Impossible}
 use Rattle.order.specs.Pairs.{Pair, bytesOf}
 use Rattle.order.specs.Refusals.{First}
 use Rattle.order.proofs.Refusals.{first-unique}
-use Rattle.order.proofs.Sets.{and-none, none-and, Settled, Follows as Entailed, entails-subset, follows-one, with-listed, listed-with}
+use Rattle.order.proofs.Sets.{and-none, none-and, Settled, Follows as Entailed, entails-subset, follows-one}
+use Rattle.order.proofs.Sets.{with-listed, listed-with}
 use Rattle.order.proofs.Tables.{marks-within, sound-table, table-unique, table-of-equals}
 use Rattle.order.proofs.Exactness.{impossible-subset, table-possible}
 use Rattle.promise.specs.declared.Stage.the-variants.{Start, Begun}
@@ -38,7 +39,8 @@ use Rattle.promise.proofs.Fresh.{fresh-accepted, fresh-stands}
 use Rattle.promise.proofs.Taking.{leaves-stands}
 use Rattle.promise.proofs.Tell.{tell-leaves, tell-refused}
 use Rattle.promise.proofs.Runs.{stands-equal}
-use Rattle.promise.proofs.BookSays.{tellsOf, pairFields, secondAt, pairItems, fields-fine, book-items, factsSaid, book-says, books-equal}
+use Rattle.promise.proofs.BookSays.{tellsOf, pairFields, secondAt, pairItems, fields-fine, book-items, factsSaid}
+use Rattle.promise.proofs.BookSays.{book-says, books-equal}
 
 -- every item tells a fact of S, or is a field that is not refused
 abbrev AllTold : Facts → List Item → Type 0

@@ -17,7 +17,8 @@ use Rattle.promise.specs.declared.Reply.{Reply}
 use Rattle.promise.specs.Refusals.{standing}
 use Rattle.promise.specs.Sessions.{noSession, reply, accepted}
 use Rattle.promise.specs.Tell.{kindOf}
-use Rattle.promise.specs.Book.{onceBegun, rowOf, lengthOf, sizeOf, fieldRefusals, Item, factsFrom, stageBehind, itemsOf, Follows, BookRead}
+use Rattle.promise.specs.Book.{onceBegun, rowOf, lengthOf, sizeOf, fieldRefusals, Item, factsFrom, stageBehind, itemsOf}
+use Rattle.promise.specs.Book.{Follows, BookRead}
 use Rattle.promise.proofs.Items.{itemsAt, items-start, items-end, items-field, facts-step, facts-end}
 use Rattle.promise.proofs.Book.{ends-within, stage-behind}
 use Rattle.reading.specs.declared.tags.Row.{Row}

@@ -5,7 +5,8 @@ use Prim.Native.Nat.{_+_, _-_, _≤_}
 use native.Mathlib.Omega.{arith}
 use borrow.Author.Needs.{needs}
 use lib.ListN.{length}
-use Rattle.reading.proofs.Advance.{FieldsLeft, fields-left, read-empty, field-ready, book-refused, next-within, fields-next, book-read}
+use Rattle.reading.proofs.Advance.{FieldsLeft, fields-left, read-empty, field-ready, book-refused, next-within}
+use Rattle.reading.proofs.Advance.{fields-next, book-read}
 use Rattle.reading.proofs.read.Statement.{statement}
 use Rattle.reading.proofs.read.Tie as tie
 

@@ -4,7 +4,8 @@ use mathlib.Core.Path.{_∙_}
 use Prim.Native.Nat.{_-_}
 use native.Mathlib.Omega.{arith}
 use borrow.Author.Needs.{needs}
-use Rattle.reading.proofs.Advance.{FactsLeft, facts-left, some-bytes, fits, one-ready, refused-here, facts-next, all-followed}
+use Rattle.reading.proofs.Advance.{FactsLeft, facts-left, some-bytes, fits, one-ready, refused-here, facts-next}
+use Rattle.reading.proofs.Advance.{all-followed}
 use Rattle.reading.proofs.facts.follow_facts.Statement.{statement}
 use Rattle.reading.proofs.facts.follow_facts.Tie as tie
 
