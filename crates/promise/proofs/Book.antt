@@ -1,5 +1,5 @@
--- What a book comes to, tied to its bytes: each fact is what the bytes at its place say, in a field that is not refused; the class count
--- comes first and once; places rise; every field stands behind fields that are not refused.
+-- What a book comes to, tied to its bytes: each fact is what the bytes at its place say, in a field that is not
+-- refused; the class count comes first and once; places rise; every field stands behind fields that are not refused.
 -- Assumes nothing.
 use mathlib.Core.Path.{_≡_, refl, sym, _∙_, ap, subst}
 use mathlib.Core.Bool.{false≢true}
@@ -17,7 +17,8 @@ use Rattle.promise.specs.Book.{atStart, Lookup, rowOf, lengthOf, sizeOf,
 use Rattle.promise.proofs.Tags.{FactsTag, RowIs, row-is, Right, field-right, facts-width, facts-fit}
 use Rattle.promise.proofs.Items.{facts-step}
 
--- q is the tag byte of a field, at a stage of reading: the first of the book, or the one behind a field that is not refused
+-- q is the tag byte of a field, at a stage of reading: the first of the book, or the one behind a field that is not
+-- refused
 pub data FieldAt (book : List ℕ) : ℕ → Stage → Type 0 where
   start : FieldAt book 0 Start
   behind :
@@ -34,8 +35,8 @@ pub field-within : {book : List ℕ} {q : ℕ} {stage : Stage} → FieldAt book 
 field-within FieldAt.start = omega arith
 field-within {book} (FieldAt.behind {q} {stage} at right) = ends-within book q stage right
 
--- the fact at place p: its two classes are the bytes there, and it stands in a field that is not refused, whose tag says how it is taken
--- and what its verdict is
+-- the fact at place p: its two classes are the bytes there, and it stands in a field that is not refused, whose tag
+-- says how it is taken and what its verdict is
 pub record SaidAt (book : List ℕ) (p : ℕ) (kind : Kind) (a b v : ℕ) : Type 0 where
   pub lower : a ≡ getD book p 0
   pub upper : b ≡ getD book (p + 1) 0
@@ -60,22 +61,23 @@ PlacesRise at (Item.said p kind a b v ∷ items) = (at ≤ p) × PlacesRise (suc
 abbrev pub Later : List ℕ → List Item → Type 0
 Later book [] = Unit {0}
 Later book (Item.head p stage bytes ∷ items) =
-    (stage ≡ Begun) × (bytes ≡ drop p book) × FieldAt book p Begun × (First (fieldRefusals stage bytes) 0 → Later book items)
+    (stage ≡ Begun) × (bytes ≡ drop p book) × FieldAt book p Begun
+    × (First (fieldRefusals stage bytes) 0 → Later book items)
 Later book (Item.begin p n ∷ items) = ⊥
 Later book (Item.said p kind a b v ∷ items) = SaidAt book p kind a b v × Later book items
 
 -- the class count, and then the fields behind the first
-abbrev pub Counted : List ℕ → List Item → Type 0
-Counted book [] = ⊥
-Counted book (Item.head p stage bytes ∷ items) = ⊥
-Counted book (Item.begin p n ∷ items) = (p ≡ 0) × (n ≡ getD book 3 0) × PlacesRise 1 items × Later book items
-Counted book (Item.said p kind a b v ∷ items) = ⊥
+abbrev pub CountFirst : List ℕ → List Item → Type 0
+CountFirst book [] = ⊥
+CountFirst book (Item.head p stage bytes ∷ items) = ⊥
+CountFirst book (Item.begin p n ∷ items) = (p ≡ 0) × (n ≡ getD book 3 0) × PlacesRise 1 items × Later book items
+CountFirst book (Item.said p kind a b v ∷ items) = ⊥
 
 -- the first field, and where it is not refused, what it says and what stands behind it
 abbrev pub Whole : List ℕ → List Item → Type 0
 Whole book [] = ⊥
 Whole book (Item.head p stage bytes ∷ items) =
-    (p ≡ 0) × (stage ≡ Start) × (bytes ≡ book) × (First (fieldRefusals stage bytes) 0 → Counted book items)
+    (p ≡ 0) × (stage ≡ Start) × (bytes ≡ book) × (First (fieldRefusals stage bytes) 0 → CountFirst book items)
 Whole book (Item.begin p n ∷ items) = ⊥
 Whole book (Item.said p kind a b v ∷ items) = ⊥
 
@@ -92,8 +94,10 @@ unfolding factsFrom
 facts-rise zero width kind verdict p e bytes items wide h l = rise-from p e items (omega arith) l
 facts-rise (suc count) width kind verdict p e bytes items wide h l = (
   omega arith,
-  rise-from (suc p) (p + width) (factsFrom count width kind verdict (p + width) (drop width bytes) ++ items) (omega arith)
-      (facts-rise count width kind verdict (p + width) e (drop width bytes) items wide (omega (arith, suc-mul count width)) l),
+  rise-from (suc p) (p + width) (factsFrom count width kind verdict (p + width) (drop width bytes) ++ items)
+      (omega arith)
+      (facts-rise count width kind verdict (p + width) e (drop width bytes) items wide
+      (omega (arith, suc-mul count width)) l),
 )
 
 says-rise :
@@ -103,8 +107,10 @@ says-rise (RowIs.unknown u) at bytes items h = rise-from at (at + sizeOf bytes) 
 says-rise (RowIs.count e) at bytes items h =
     (omega arith, rise-from (suc at) (at + sizeOf bytes) items (omega arith) h)
 says-rise (RowIs.facts {width} {kind} {verdict} t) at bytes items h =
-    rise-from at (at + 3) (factsFrom (lengthOf bytes / width) width kind verdict (at + 3) (drop 3 bytes) ++ items) (omega arith)
-    (facts-rise (lengthOf bytes / width) width kind verdict (at + 3) (at + sizeOf bytes) (drop 3 bytes) items (facts-width t)
+    rise-from at (at + 3) (factsFrom (lengthOf bytes / width) width kind verdict (at + 3) (drop 3 bytes) ++ items)
+    (omega arith)
+    (facts-rise (lengthOf bytes / width) width kind verdict (at + 3) (at + sizeOf bytes) (drop 3 bytes) items
+    (facts-width t)
     (omega (arith, facts-fit (lengthOf bytes) width)) h)
 
 -- places rise, whatever the bytes are
@@ -155,7 +161,8 @@ not-start e z = false≢true (ap atStart (sym e ∙ z))
 -- a field behind the first that is not refused says facts
 field-later :
     (book : List ℕ) (at : ℕ) (bytes : List ℕ) (items : List Item) → bytes ≡ drop at book → FieldAt book at Begun
-    → First (fieldRefusals Begun bytes) 0 → Later book items → Later book (fieldSays (rowOf (getD bytes 0 0)) at bytes ++ items)
+    → First (fieldRefusals Begun bytes) 0 → Later book items
+    → Later book (fieldSays (rowOf (getD bytes 0 0)) at bytes ++ items)
 field-later book at bytes items e is-field right after =
     subst (λ (f : List ℕ). Later book (fieldSays (rowOf (getD f 0 0)) at f ++ items)) (sym e)
     (go (rowOf (getD f 0 0)) (field-right Begun f here .0))
@@ -175,7 +182,8 @@ field-later book at bytes items e is-field right after =
         (omega (arith, facts-fit (lengthOf f) width)))
 
 -- what stands behind a field is at the stage Begun
-pub stage-behind : (stage : Stage) (bytes : List ℕ) → First (fieldRefusals stage bytes) 0 → stageBehind (rowOf (getD bytes 0 0)) stage ≡ Begun
+pub stage-behind : (stage : Stage) (bytes : List ℕ) → First (fieldRefusals stage bytes) 0
+    → stageBehind (rowOf (getD bytes 0 0)) stage ≡ Begun
 stage-behind stage bytes right = go (field-right stage bytes right .0)
   where
     go : {l : Lookup} → Right stage (getD bytes 0 0) (lengthOf bytes) l → stageBehind l stage ≡ Begun
@@ -191,7 +199,8 @@ field-behind book at stage bytes e is-field right =
 
 -- the fields behind the first
 items-later :
-    (fuel at : ℕ) (book bytes : List ℕ) → bytes ≡ drop at book → FieldAt book at Begun → Later book (itemsFrom fuel Begun at bytes)
+    (fuel at : ℕ) (book bytes : List ℕ) → bytes ≡ drop at book → FieldAt book at Begun
+    → Later book (itemsFrom fuel Begun at bytes)
 unfolding itemsFrom
 items-later zero at book bytes e is-field = tt
 items-later (suc fuel) at book [] e is-field = tt
@@ -206,28 +215,38 @@ items-later (suc fuel) at book (tag ∷ bytes) e is-field =
           (λ (stage : Stage). Later book (itemsFrom fuel stage (at + sizeOf field) (drop (sizeOf field) field)))
           (sym (stage-behind Begun field right))
           (items-later fuel (at + sizeOf field) book (drop (sizeOf field) field)
-          (ap (drop (sizeOf field)) e ∙ drop-drop (sizeOf field) at book) (field-behind book at Begun field e is-field right))),
+          (ap (drop (sizeOf field)) e ∙ drop-drop (sizeOf field) at book)
+          (field-behind book at Begun field e is-field right))),
     )
 
 -- what a book comes to
 pub items-whole : (book : List ℕ) → Whole book (itemsOf book)
 unfolding itemsFrom
 items-whole [] = (refl, refl, refl, λ right. absurd (omega (arith, field-right Start [] right .1)))
-items-whole (tag ∷ bytes) = (refl, refl, refl, λ right. says (rowOf tag) (field-right Start book right .0) (stage-behind Start book right) right)
+items-whole (tag ∷ bytes)
+    = (
+      refl,
+      refl,
+      refl,
+      λ right. says (rowOf tag) (field-right Start book right .0) (stage-behind Start book right)
+          right,
+    )
   where
     book : List ℕ
     book = tag ∷ bytes
 
     says :
-        (l : Lookup) → Right Start tag (lengthOf book) l → stageBehind l Start ≡ Begun → First (fieldRefusals Start book) 0
-        → Counted book
+        (l : Lookup) → Right Start tag (lengthOf book) l → stageBehind l Start ≡ Begun
+        → First (fieldRefusals Start book) 0
+        → CountFirst book
         (fieldSays l 0 book
         ++ itemsFrom (length bytes) (stageBehind l Start) (0 + sizeOf book) (drop (sizeOf book) book))
     says l (Right.facts z _ _) e right = absurd (not-start z refl)
     says l (Right.count _ _ _) e right = (
       refl,
       refl,
-      rise-from 1 (0 + sizeOf book) (itemsFrom (length bytes) Begun (0 + sizeOf book) (drop (sizeOf book) book)) (omega arith)
+      rise-from 1 (0 + sizeOf book) (itemsFrom (length bytes) Begun (0 + sizeOf book) (drop (sizeOf book) book))
+          (omega arith)
           (items-rise (length bytes) Begun (0 + sizeOf book) (drop (sizeOf book) book)),
       items-later (length bytes) (0 + sizeOf book) book (drop (sizeOf book) book) (drop-drop (sizeOf book) 0 book)
           (FieldAt.behind FieldAt.start right),

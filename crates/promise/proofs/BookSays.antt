@@ -1,10 +1,11 @@
--- What the book of a table says: the settled marks off the diagonal, and nothing else; so two tables have equal books exactly when their
--- marks are equal.
+-- What the book of a table says: the settled marks off the diagonal, and nothing else; so two tables have equal books
+-- exactly when their marks are equal.
 -- Assumes nothing.
 use mathlib.Core.Path.{_≡_, refl, sym, _∙_, ap, ap₂, subst}
 use mathlib.Core.Logic.{_↔_, _≢_, _⊎_, inl, inr}
 use mathlib.Core.Bool.{Bool, true, false, true≢false}
-use mathlib.Core.List.{List, [], _∷_, _++_, append-nil, List·Memᴰ, List·Memᴰ·head, List·Memᴰ·tail, List·Memᴰ·not-nil, List·Memᴰ·cases-cons, List·Memᴰ·append-cases, Memᴰ·append-left, Memᴰ·append-right}
+use mathlib.Core.List.{List, [], _∷_, _++_, append-nil, List·Memᴰ, List·Memᴰ·head, List·Memᴰ·tail, List·Memᴰ·not-nil}
+use mathlib.Core.List.{List·Memᴰ·cases-cons, List·Memᴰ·append-cases, Memᴰ·append-left, Memᴰ·append-right}
 use Prim.Native.Nat.{ℕ, suc, _+_, _/_, _%_, _<_}
 use native.Mathlib.Nat.{div-add-mod', mul-mod-right}
 use native.Mathlib.Decide.{ℕ-discrete}
@@ -33,9 +34,11 @@ given-length : (tag : ℕ) (bytes rest : List ℕ) → lengthOf (field tag bytes
 given-length tag bytes rest = div-add-mod' (length bytes) 256
 
 -- a written field is not refused where its tag may stand and allows the length
-module _ (stage : Stage) (tag : ℕ) (row : TagRow) (known : rowOf tag ≡ Lookup.row row) (placed : row .stands stage ≡ true) where
+module _ (stage : Stage) (tag : ℕ) (row : TagRow) (known : rowOf tag ≡ Lookup.row row)
+    (placed : row .stands stage ≡ true) where
   pub field-fine :
-      (bytes rest : List ℕ) → row .allows (length bytes) ≡ true → First (fieldRefusals stage (field tag bytes ++ rest)) 0
+      (bytes rest : List ℕ) → row .allows (length bytes) ≡ true
+      → First (fieldRefusals stage (field tag bytes ++ rest)) 0
   field-fine bytes rest allowed =
       let size = length-append bytes rest in
       inr (
@@ -79,7 +82,8 @@ pairs-told v at (p ∷ l) rest =
 -- a written field of pairs tells them
 pairs-said :
     (tag v at : ℕ) (l : List Pair) (rest : List ℕ)
-    → fieldSays (Lookup.row (factsRow tag 2 Kind.told (λ bytes. v))) at (field tag (bytesOf l) ++ rest) ≡ tellsOf v (at + 3) l
+    → fieldSays (Lookup.row (factsRow tag 2 Kind.told (λ bytes. v))) at (field tag (bytesOf l) ++ rest)
+    ≡ tellsOf v (at + 3) l
 pairs-said tag v at l rest =
     let count : lengthOf (field tag (bytesOf l) ++ rest) / 2 ≡ length l =
     ap (λ (k : ℕ). k / 2) (given-length tag (bytesOf l) rest) ∙ omega (arith, length-bytes l)
@@ -146,10 +150,12 @@ book-items {n} h =
         ≡ Item.head 0 Start (field 1 (n ∷ []) ++ pairFields ys zs) ∷ Item.begin 0 n ∷ pairItems ys zs
     said =
         let L = length (bytesOf ys ++ field 3 (bytesOf zs)) in
-        field-items Start 1 (countRow 1) known-count refl (suc (suc (suc (suc (suc (suc L)))))) 0 (n ∷ []) (pairFields ys zs)
+        field-items Start 1 (countRow 1) known-count refl (suc (suc (suc (suc (suc (suc L)))))) 0 (n ∷ [])
+        (pairFields ys zs)
         ∙ ap
         (λ (items : List Item). Item.head 0 Start (field 1 (n ∷ []) ++ pairFields ys zs) ∷ Item.begin 0 n ∷ items)
-        (field-items Begun 2 (factsRow 2 2 Kind.told (λ bytes. 1)) known-yes refl (suc (suc (suc (suc (suc L))))) 4 (bytesOf ys)
+        (field-items Begun 2 (factsRow 2 2 Kind.told (λ bytes. 1)) known-yes refl (suc (suc (suc (suc (suc L))))) 4
+        (bytesOf ys)
         (field 3 (bytesOf zs))
         ∙ ap₂ (λ (told items : List Item). Item.head 4 Begun (pairFields ys zs) ∷ told ++ items)
         (pairs-said 2 1 4 ys (field 3 (bytesOf zs))) (last (suc (suc (suc L))) (secondAt ys)))
@@ -163,10 +169,12 @@ pub fields-fine :
 fields-fine {n} h = (
   rw (h .bytes)
       (field-fine Start 1 (countRow 1) known-count refl (n ∷ []) (pairFields (h .yes-pairs) (h .no-pairs)) refl),
-  field-fine Begun 2 (factsRow 2 2 Kind.told (λ bytes. 1)) known-yes refl (bytesOf (h .yes-pairs)) (field 3 (bytesOf (h .no-pairs)))
+  field-fine Begun 2 (factsRow 2 2 Kind.told (λ bytes. 1)) known-yes refl (bytesOf (h .yes-pairs))
+      (field 3 (bytesOf (h .no-pairs)))
       (even (h .yes-pairs)),
   subst (λ (l : List ℕ). First (fieldRefusals Begun l) 0) (append-nil (field 3 (bytesOf (h .no-pairs))))
-      (field-fine Begun 3 (factsRow 3 2 Kind.told (λ bytes. 0)) known-no refl (bytesOf (h .no-pairs)) [] (even (h .no-pairs))),
+      (field-fine Begun 3 (factsRow 3 2 Kind.told (λ bytes. 0)) known-no refl (bytesOf (h .no-pairs)) []
+      (even (h .no-pairs))),
 )
 
 -- the facts that items say
@@ -177,7 +185,8 @@ factsSaid (Item.begin p n ∷ items) = factsSaid items
 factsSaid (Item.said p kind a b v ∷ items) = factOf a b v ∷ factsSaid items
 
 -- they are the facts accepted where all that they say is
-pub said-accepted : (n : ℕ) (items : List Item) (f : Fact) → Accepted n (callsSaid items) f ↔ List·Memᴰ f (factsSaid items)
+pub said-accepted : (n : ℕ) (items : List Item) (f : Fact)
+    → Accepted n (callsSaid items) f ↔ List·Memᴰ f (factsSaid items)
 said-accepted n [] f = (λ i. absurd i, λ i. absurd (List·Memᴰ·not-nil i))
 said-accepted n (Item.head p stage bytes ∷ items) f = said-accepted n items f
 said-accepted n (Item.begin p m ∷ items) f = said-accepted n items f
@@ -249,7 +258,8 @@ book-says {n} {t} {book} h f = (
     said : factsSaid (itemsOf book) ≡ factsSaid yes-items ++ factsSaid no-items
     said =
         ap factsSaid (book-items h)
-        ∙ said-append yes-items (Item.head (secondAt (h .yes-pairs)) Begun (field 3 (bytesOf (h .no-pairs))) ∷ no-items)
+        ∙ said-append yes-items
+        (Item.head (secondAt (h .yes-pairs)) Begun (field 3 (bytesOf (h .no-pairs))) ∷ no-items)
 
     marked :
         (v : ℕ) {l : List Pair} → PairsMarked n t (markFor (truthOf v)) l

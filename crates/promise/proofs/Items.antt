@@ -1,7 +1,7 @@
--- The items of a book from any place on, in terms of the bytes there, with nothing left out: one field after the other, and in a field one
--- fact after the other. And a field's refusals by its bytes, as document 01 words them.
+-- The items of a book from any place on, in terms of the bytes there, with nothing left out: one field after the other,
+-- and in a field one fact after the other.
 -- Assumes nothing.
-use mathlib.Core.Path.{_≡_, refl, ap}
+use mathlib.Core.Path.{_≡_, refl}
 use mathlib.Core.Logic.{_≢_}
 use mathlib.Core.List.{List, [], _∷_, _++_}
 use Prim.Native.Nat.{ℕ, zero, suc, _+_, _≤_, _<_}
@@ -14,11 +14,6 @@ use Rattle.promise.specs.declared.Stage.{Stage}
 use Rattle.promise.specs.declared.Stage.the-variants.{Start}
 use Rattle.promise.specs.Tell.{Kind}
 use Rattle.promise.specs.Book.{rowOf, sizeOf, Item, factsFrom, fieldSays, stageBehind, itemsFrom, itemsOf}
-
--- a field with these bytes, what it says, and later items
-abbrev fieldThen : Stage → ℕ → ℕ → List ℕ → List Item → List Item
-fieldThen stage at tag bytes later =
-    Item.head at stage (tag ∷ bytes) ∷ fieldSays (rowOf tag) at (tag ∷ bytes) ++ later
 
 -- as many fields as there are bytes are enough
 items-fuel :
@@ -34,9 +29,10 @@ items-fuel (suc k) (suc k₂) stage at [] h h₂ = refl
 items-fuel (suc k) (suc k₂) stage at (tag ∷ bytes) h h₂ =
     let field = tag ∷ bytes in
     let l = length-drop (sizeOf field) field in
-    ap (fieldThen stage at tag bytes)
+    rw
     (items-fuel k k₂ (stageBehind (rowOf tag) stage) (at + sizeOf field) (drop (sizeOf field) field) (omega arith)
     (omega arith))
+    refl
 
 -- the items of these bytes, of which the first stands at place at
 step :
@@ -50,9 +46,10 @@ step zero stage at (tag ∷ bytes) some h = absurd (omega arith)
 step (suc k) stage at (tag ∷ bytes) some h =
     let field = tag ∷ bytes in
     let l = length-drop (sizeOf field) field in
-    ap (fieldThen stage at tag bytes)
+    rw
     (items-fuel k (suc k) (stageBehind (rowOf tag) stage) (at + sizeOf field) (drop (sizeOf field) field) (omega arith)
     (omega arith))
+    refl
 
 -- the items from place at on
 abbrev pub itemsAt : List ℕ → Stage → ℕ → List Item
@@ -90,8 +87,10 @@ pub facts-step :
     ≡ Item.said p kind (getD book p 0) (getD book (p + 1) 0) (verdict (drop p book))
     ∷ factsFrom count width kind verdict (p + width) (drop (p + width) book)
 unfolding factsFrom
-facts-step count width kind verdict p book = rw (getD-drop p book 0 0, add-zero p, getD-drop p book 1 0, drop-drop width p book) refl
+facts-step count width kind verdict p book = rw
+    (getD-drop p book 0 0, add-zero p, getD-drop p book 1 0, drop-drop width p book) refl
 
-pub facts-end : (width : ℕ) (kind : Kind) (verdict : List ℕ → ℕ) (p : ℕ) (bytes : List ℕ) → factsFrom 0 width kind verdict p bytes ≡ []
+pub facts-end : (width : ℕ) (kind : Kind) (verdict : List ℕ → ℕ) (p : ℕ) (bytes : List ℕ)
+    → factsFrom 0 width kind verdict p bytes ≡ []
 unfolding factsFrom
 facts-end width kind verdict p bytes = refl

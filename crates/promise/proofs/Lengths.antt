@@ -14,7 +14,8 @@ use Rattle.promise.proofs.Write.{off?}
 
 -- "10 + 2 times the count of both in bytes"
 pub book-length :
-    {n : ℕ} {t book : List ℕ} (h : BookOf n t book) → length book ≡ 10 + 2 * (length (h .yes-pairs) + length (h .no-pairs))
+    {n : ℕ} {t book : List ℕ} (h : BookOf n t book)
+    → length book ≡ 10 + 2 * (length (h .yes-pairs) + length (h .no-pairs))
 book-length h =
     let ys = bytesOf (h .yes-pairs) in
     let zs = bytesOf (h .no-pairs) in

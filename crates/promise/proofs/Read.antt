@@ -1,5 +1,5 @@
--- Reading a book: one outcome for each input; what was read is a run from fresh of the facts said, all of them or those before the place;
--- a refusal says where and why, at a place within the book; numbers 3 and 4 never come up.
+-- Reading a book: one outcome for each input; what was read is a run from fresh of the facts said, all of them or those
+-- before the place; a refusal says where and why, at a place within the book; numbers 3 and 4 never come up.
 -- Assumes nothing.
 use mathlib.Core.Path.{_≡_, refl, sym, _∙_, ap, subst}
 use mathlib.Core.Logic.{_≢_, _⊎_, inl, inr}
@@ -25,7 +25,7 @@ use Rattle.promise.proofs.Fresh.{fresh-unique, fresh-there, fresh-stand
 use Rattle.promise.proofs.Taking.{leaves-keeps}
 use Rattle.promise.proofs.Tell.{tell-unique, tell-there, tell-leaves, tell-numbers}
 use Rattle.promise.proofs.Tags.{field-there, field-numbers}
-use Rattle.promise.proofs.Book.{FieldAt, field-within, ends-within, SaidAt, PlacesRise, Later, Counted, Whole, items-whole}
+use Rattle.promise.proofs.Book.{FieldAt, field-within, ends-within, SaidAt, PlacesRise, Later, CountFirst, Whole, items-whole}
 
 -- one outcome at most
 
@@ -53,7 +53,8 @@ made-unique :
 made-unique p {q} {r₂ = r₂} {u = u} {t₂ = t₂} L e later h h₂ =
     goes-unique (q .number) p later h
     (subst
-    (λ (o : Reply × List ℕ). GoesOn (o .0 .number) p (o .0 .session) (o .1) r₂ t₂ (L (o .0 .session) (o .1) r₂ t₂)) (sym e) h₂)
+    (λ (o : Reply × List ℕ). GoesOn (o .0 .number) p (o .0 .session) (o .1) r₂ t₂ (L (o .0 .session) (o .1) r₂ t₂))
+    (sym e) h₂)
 
 follows-unique :
     (items : List Item) (s : Session) (t : List ℕ) {r r₂ : Reply} {t′ t₂ : List ℕ} → Follows items s t r t′
@@ -160,26 +161,30 @@ abbrev pub itemsBefore : ℕ → List Item → List Item
 itemsBefore place [] = []
 itemsBefore place (item ∷ items) = ifBefore (decLt (placeOf item) place) item (itemsBefore place items)
 
--- Where a refused book stops: at the tag byte of a field, with 10 to 13, or at the first byte of a fact, with 14 for a verdict above 1,
--- and with 5 or 6.
+-- Where a refused book stops: at the tag byte of a field, with 10 to 13, or at the first byte of a fact, with 14 for a
+-- verdict above 1, and with 5 or 6.
 pub data Stopped (book : List ℕ) (number place : ℕ) : Type 0 where
   at-field :
-      {stage : Stage} → FieldAt book place stage → First (fieldRefusals stage (drop place book)) number → Stopped book number place
-  at-verdict : {kind : Kind} {a b v : ℕ} → SaidAt book place kind a b v → 1 < v → number ≡ 14 → Stopped book number place
+      {stage : Stage} → FieldAt book place stage → First (fieldRefusals stage (drop place book)) number
+      → Stopped book number place
+  at-verdict : {kind : Kind} {a b v : ℕ} → SaidAt book place kind a b v → 1 < v → number ≡ 14
+      → Stopped book number place
   at-fact :
       {kind : Kind} {a b v : ℕ} → SaidAt book place kind a b v → v ≤ 1 → (number ≡ 5) ⊎ (number ≡ 6)
       → Stopped book number place
 
 -- The items were followed from session s and table t: all, or those before the place.
-pub data Followed (book : List ℕ) (items : List Item) (s : Session) (t : List ℕ) (r : Reply) (t′ : List ℕ) : Type 0 where
-  all : r .number ≡ 0 → r .place ≡ 0 → Run s t (callsSaid items) (r .session) t′ → Followed book items s t r t′
-  some :
-      r .number ≢ 0 → Run s t (callsSaid (itemsBefore (r .place) items)) (r .session) t′
-      → Stopped book (r .number) (r .place) → Followed book items s t r t′
+pub data Followed (book : List ℕ) (items : List Item) (s : Session) (t : List ℕ) (r : Reply) (t′ : List ℕ) : Type 0
+  where
+    all : r .number ≡ 0 → r .place ≡ 0 → Run s t (callsSaid items) (r .session) t′ → Followed book items s t r t′
+    some :
+        r .number ≢ 0 → Run s t (callsSaid (itemsBefore (r .place) items)) (r .session) t′
+        → Stopped book (r .number) (r .place) → Followed book items s t r t′
 
 -- an item that is not before the place
 passed-over :
-    (item : Item) (place : ℕ) (items : List Item) → place ≤ placeOf item → itemsBefore place (item ∷ items) ≡ itemsBefore place items
+    (item : Item) (place : ℕ) (items : List Item) → place ≤ placeOf item
+    → itemsBefore place (item ∷ items) ≡ itemsBefore place items
 passed-over item place items h = go (decLt (placeOf item) place)
   where
     go : (d : Dec (placeOf item < place)) → ifBefore d item (itemsBefore place items) ≡ itemsBefore place items
@@ -216,7 +221,8 @@ field-calls p stage bytes place items = go (decLt p place)
   where
     go :
         (d : Dec (p < place))
-        → callsSaid (ifBefore d (Item.head p stage bytes) (itemsBefore place items)) ≡ callsSaid (itemsBefore place items)
+        → callsSaid (ifBefore d (Item.head p stage bytes) (itemsBefore place items))
+        ≡ callsSaid (itemsBefore place items)
     go (yes z) = refl
     go (no z) = refl
 
@@ -256,7 +262,8 @@ Onward book at items s t r t′ = (r .number ≢ 0 → at ≤ r .place) × Follo
 
 module _ (book : List ℕ) where
   field-run :
-      (at p : ℕ) (stage : Stage) (bytes : List ℕ) (items : List Item) (s : Session) (t : List ℕ) {r : Reply} {t′ : List ℕ} → at ≤ p
+      (at p : ℕ) (stage : Stage) (bytes : List ℕ) (items : List Item) (s : Session) (t : List ℕ) {r : Reply}
+      {t′ : List ℕ} → at ≤ p
       → Onward book p items s t r t′ → Onward book at (Item.head p stage bytes ∷ items) s t r t′
   field-run at p stage bytes items s t {r} {t′} h (le, f) = (λ ne. omega (arith, le ne), go f)
     where
@@ -264,10 +271,12 @@ module _ (book : List ℕ) where
       go (Followed.all z place run) = Followed.all z place run
       go (Followed.some z run stop) =
           Followed.some z
-          (subst (λ (l : List Made). Run s t l (r .session) t′) (sym (field-calls p stage bytes (r .place) items)) run) stop
+          (subst (λ (l : List Made). Run s t l (r .session) t′) (sym (field-calls p stage bytes (r .place) items)) run)
+          stop
 
   fact-run :
-      (at p : ℕ) (kind : Kind) (a b v : ℕ) (items : List Item) (s : Session) (t : List ℕ) {q r : Reply} {u t′ : List ℕ} → at ≤ p
+      (at p : ℕ) (kind : Kind) (a b v : ℕ) (items : List Item) (s : Session) (t : List ℕ) {q r : Reply} {u t′ : List ℕ}
+      → at ≤ p
       → Owed (tell kind s t (factOf a b v)) (q, u) → q .number ≡ 0 → Onward book (suc p) items (q .session) u r t′
       → Onward book at (Item.said p kind a b v ∷ items) s t r t′
   fact-run at p kind a b v items s t {q} {r} {u} {t′} h told k (le, f) = (λ ne. omega (arith, le ne), go f)
@@ -307,7 +316,8 @@ module _ (book : List ℕ) where
       let kept = changes-kept told ne in (
         λ _. rw (e .0) (rise .0),
         stops-here book (q .number) p (Item.said p kind a b v ∷ items) (omega arith, rise .1) ne
-            (Stopped.at-fact (l .0) (verdict-right first z) (fact-number (tell-numbers kind st told))) (rw (kept .0, kept .1) at e),
+            (Stopped.at-fact (l .0) (verdict-right first z) (fact-number (tell-numbers kind st told)))
+            (rw (kept .0, kept .1) at e),
       )
     where
       fact-number : (q .number ≡ 0) ⊎ (q .number ≡ 5) ⊎ (q .number ≡ 6) → (q .number ≡ 5) ⊎ (q .number ≡ 6)
@@ -317,8 +327,8 @@ module _ (book : List ℕ) where
       fact-run at p kind a b v items s t (rise .0) told y
       (follows-run (suc p) items (q .session) u (rise .1) (l .1) (leaves-keeps (tell-leaves kind told y) st) later)
 
--- What a reading comes to. No class count was accepted, and table and session show it; or a run from fresh for the book's class count,
--- with all the facts said, in order; or with those before the place.
+-- What a reading comes to. No class count was accepted, and table and session show it; or a run from fresh for the
+-- book's class count, with all the facts said, in order; or with those before the place.
 pub data ReadAs (book t : List ℕ) (r : Reply) (t′ : List ℕ) : Type 0 where
   not-begun :
       r .place ≡ 0 → r .session ≡ noSession → t′ ≡ t
@@ -336,7 +346,8 @@ read-run {book} {t} {r} {t′} h = go (itemsOf book) (items-whole book) (h .foll
   where
     -- behind the first field
     counted :
-        (p₀ : ℕ) (stage : Stage) (bytes : List ℕ) (items : List Item) → Counted book items → Follows items noSession t r t′
+        (p₀ : ℕ) (stage : Stage) (bytes : List ℕ) (items : List Item) → CountFirst book items
+        → Follows items noSession t r t′
         → itemsOf book ≡ Item.head p₀ stage bytes ∷ items → ReadAs book t r t′
     counted p₀ stage bytes [] c f e = absurd c
     counted p₀ stage bytes (Item.head p st b ∷ items) c f e = absurd c
@@ -346,8 +357,8 @@ read-run {book} {t} {r} {t′} h = go (itemsOf book) (items-whole book) (h .foll
         rw (x .0)
         (ReadAs.not-begun (c .0) (kept .0) (x .1 ∙ kept .1) (inl (omega arith, fresh-numbers begun)))
     counted p₀ stage bytes (Item.begin p n ∷ items) c (q, u, begun, inr (k, x)) e =
-        came
-        (follows-run book 1 items (q .session) u (c .2) (c .3) (standing-passed [] (fresh-stands begun k .stands) .0) x .1)
+        let stands = standing-passed [] (fresh-stands begun k .stands) .0 in
+        came (follows-run book 1 items (q .session) u (c .2) (c .3) stands x .1)
       where
         from-fresh :
             {calls : List Made} → Run (q .session) u calls (r .session) t′
@@ -366,7 +377,8 @@ read-run {book} {t} {r} {t′} h = go (itemsOf book) (items-whole book) (h .foll
             run))
             stop
 
-    go : (items : List Item) → Whole book items → Follows items noSession t r t′ → itemsOf book ≡ items → ReadAs book t r t′
+    go : (items : List Item) → Whole book items → Follows items noSession t r t′ → itemsOf book ≡ items
+        → ReadAs book t r t′
     go [] w f e = absurd w
     go (Item.begin p n ∷ items) w f e = absurd w
     go (Item.said p kind a b v ∷ items) w f e = absurd w
@@ -376,7 +388,8 @@ read-run {book} {t} {r} {t′} h = go (itemsOf book) (items-whole book) (h .foll
         counted p stage bytes items (w .3 (subst (First (fieldRefusals stage bytes)) z first)) later e
 
 -- "Numbers 3 and 4 can't come up in reading."
-pub read-numbers : {book t : List ℕ} {r : Reply} {t′ : List ℕ} → BookRead book t r t′ → (r .number ≢ 3) × (r .number ≢ 4)
+pub read-numbers : {book t : List ℕ} {r : Reply} {t′ : List ℕ} → BookRead book t r t′
+    → (r .number ≢ 3) × (r .number ≢ 4)
 read-numbers {book} {t} {r} {t′} h = go (read-run h)
   where
     stopped : r .number ≢ 0 → Stopped book (r .number) (r .place) → (r .number ≢ 3) × (r .number ≢ 4)

@@ -44,7 +44,8 @@ AllTold S (Item.begin p m ∷ items) = ⊥
 AllTold S (Item.said p kind a b v ∷ items) = (kind ≡ Kind.told) × (v ≤ 1) × S (factOf a b v) × AllTold S items
 
 tells-told :
-    (S : Facts) (v at : ℕ) (l : List Pair) (items : List Item) → v ≤ 1 → ((a b : ℕ) → List·Memᴰ (a, b) l → S (factOf a b v))
+    (S : Facts) (v at : ℕ) (l : List Pair) (items : List Item) → v ≤ 1
+    → ((a b : ℕ) → List·Memᴰ (a, b) l → S (factOf a b v))
     → AllTold S items → AllTold S (tellsOf v at l ++ items)
 tells-told S v at [] items hv h after = after
 tells-told S v at (p ∷ l) items hv h after = (
@@ -60,7 +61,8 @@ module _ (n : ℕ) (G : Facts) (within : Within n G) (possible : ¬ Impossible n
       (items : List Item) (S : Facts) (t t′ : List ℕ) {r : Reply} → S ⊆ G → AllTold G items → StandsFor S (started n) t
       → Follows items (started n) t r t′
       → (r ≡ accepted (started n)) × StandsFor (S and Listed (factsSaid items)) (started n) t′
-  told-accepted [] S t t′ i l st h = (h .0, rw (h .1) (stands-equal (λ f m. inl m) (and-none S (λ f m. List·Memᴰ·not-nil m)) st))
+  told-accepted [] S t t′ i l st h
+      = (h .0, rw (h .1) (stands-equal (λ f m. inl m) (and-none S (λ f m. List·Memᴰ·not-nil m)) st))
   told-accepted (Item.begin p m ∷ items) S t t′ i l st h = absurd l
   told-accepted (Item.head p stage bytes ∷ items) S t t′ i l st (k, first, inl (ne, e)) =
       absurd (ne (first-unique (fieldRefusals stage bytes) k 0 first (l .0)))
@@ -118,15 +120,20 @@ read-back {n} {t} {book} {u} {r} {u′} k st some few room h =
         let q = l .exact a b .0 i in
         record { lower-below = q .0; upper-below = q .1; settled = q .2 .1 }
 
-    fine : First (fieldRefusals Start book) 0 × First (fieldRefusals Begun (pairFields ys zs)) 0 × First (fieldRefusals Begun (field 3 (bytesOf zs))) 0
+    fine : First (fieldRefusals Start book) 0 × First (fieldRefusals Begun (pairFields ys zs)) 0
+        × First (fieldRefusals Begun (field 3 (bytesOf zs))) 0
     fine = fields-fine k
 
     told : AllTold (Marks n t) items
     told = (
       fine .1,
-      tells-told (Marks n t) 1 (4 + 3) ys (Item.head (secondAt ys) Begun (field 3 (bytesOf zs)) ∷ tellsOf 0 (secondAt ys + 3) zs)
-          (omega arith) (marked 1 (k .yes-listed))
-          (fine .2, rw (append-nil (tellsOf 0 (secondAt ys + 3) zs)) at (tells-told (Marks n t) 0 (secondAt ys + 3) zs [] (omega arith) (marked 0 (k .no-listed)) tt)),
+      tells-told (Marks n t) 1 (4 + 3) ys
+          (Item.head (secondAt ys) Begun (field 3 (bytesOf zs)) ∷ tellsOf 0 (secondAt ys + 3) zs)
+          (omega arith) (marked 1 (k .yes-listed)) (
+            fine .2,
+            rw (append-nil (tellsOf 0 (secondAt ys + 3) zs)) at
+                (tells-told (Marks n t) 0 (secondAt ys + 3) zs [] (omega arith) (marked 0 (k .no-listed)) tt),
+          ),
     )
 
     said : factsSaid (itemsOf book) ≡ factsSaid items
@@ -138,7 +145,8 @@ read-back {n} {t} {book} {u} {r} {u′} k st some few room h =
         table-unique (sound-table st) (table-of-equals (record { at = up }) (entails-subset down) table)
       where
         down : (Listed [] and Listed (factsSaid items)) ⊆ Marks n t
-        down f i = book-says k f .0 (rw said (none-and (Listed (factsSaid items)) {N = Listed []} (λ g m. List·Memᴰ·not-nil m) f i)) .0
+        down f i = book-says k f .0
+            (rw said (none-and (Listed (factsSaid items)) {N = Listed []} (λ g m. List·Memᴰ·not-nil m) f i)) .0
 
         up : (f : Fact) → Marks n t f → Entailed (Listed [] and Listed (factsSaid items)) f
         up f m = pick (f .lower) (f .upper) (f .holds) m (ℕ-discrete (f .lower) (f .upper))
@@ -176,7 +184,8 @@ read-back {n} {t} {book} {u} {r} {u′} k st some few room h =
     started-right (number, first, inr (z, later)) = begun later
 
 -- Of the calls: what write wrote is the book.
-written : (s : Session) (t out : List ℕ) {c : ℕ} {out′ : List ℕ} → Owed (write s t out) (Count c, out′) → BookOf (s .classes) t (take c out′)
+written : (s : Session) (t out : List ℕ) {c : ℕ} {out′ : List ℕ} → Owed (write s t out) (Count c, out′)
+    → BookOf (s .classes) t (take c out′)
 written s t out {c} {out′} h =
     let d = h .done refl in
     let front : take c out′ ≡ d .0 =
@@ -187,7 +196,8 @@ written s t out {c} {out′} h =
 
 -- read onto any table that is long enough
 pub write-read :
-    (s : Session) (t out : List ℕ) {c : ℕ} {out′ u : List ℕ} {r : Reply} {u′ : List ℕ} → Owed (write s t out) (Count c, out′)
+    (s : Session) (t out : List ℕ) {c : ℕ} {out′ u : List ℕ} {r : Reply} {u′ : List ℕ}
+    → Owed (write s t out) (Count c, out′)
     → s .classes * s .classes ≤ length u → BookRead (take c out′) u r u′
     → (r ≡ accepted (started (s .classes))) × SameMarks (s .classes) t u′
 write-read s t out h long read =

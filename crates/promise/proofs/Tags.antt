@@ -122,13 +122,15 @@ facts-length len FactsTag.answers = (
       (λ _ n. ne-eqb (len % 3) 0 n),
 )
 
-facts-tag : {tag width : ℕ} {kind : Kind} {verdict : List ℕ → ℕ} → FactsTag tag width kind verdict → (2 ≤ tag) × (tag ≤ 4)
+facts-tag : {tag width : ℕ} {kind : Kind} {verdict : List ℕ → ℕ} → FactsTag tag width kind verdict
+    → (2 ≤ tag) × (tag ≤ 4)
 facts-tag FactsTag.yes-facts = omega arith
 facts-tag FactsTag.no-facts = omega arith
 facts-tag FactsTag.answers = omega arith
 
 row-first :
-    (tag : ℕ) {l : Lookup} → RowIs tag l → (stage : Stage) (len room : ℕ) {k : ℕ} → First (rowRefusals l stage len room) k
+    (tag : ℕ) {l : Lookup} → RowIs tag l → (stage : Stage) (len room : ℕ) {k : ℕ}
+    → First (rowRefusals l stage len room) k
     → First
     (unknownTag ((tag ≡ 0) ⊎ (4 < tag))
     ∷ misplacedTag (Misplaced stage tag)
@@ -141,7 +143,8 @@ row-first tag (RowIs.unknown u) stage len room (inr (z, _)) = absurd (z tt)
 row-first tag (RowIs.count e) stage len room {k} f =
     inr (
       ⊎-elim (λ z. omega arith) (λ z. omega arith),
-      first-map 12 (badLength (eqb len 1 ≡ false) ∷ cut) (badLength (NotAllowed tag len) ∷ cut) (misplaced-count stage e)
+      first-map 12 (badLength (eqb len 1 ≡ false) ∷ cut) (badLength (NotAllowed tag len) ∷ cut)
+          (misplaced-count stage e)
           (first-map 13 cut cut (count-length tag len e) (λ g. g)) f,
     )
   where
@@ -159,14 +162,23 @@ row-first tag (RowIs.facts {width} h) stage len room {k} f =
     cut = cutShort (room < len) ∷ []
 
 -- the refusal of a field is the first of those that document 01 gives for its bytes
-pub field-first : (stage : Stage) (bytes : List ℕ) (k : ℕ) → First (fieldRefusals stage bytes) k → First (inWords stage bytes) k
+pub field-first : (stage : Stage) (bytes : List ℕ) (k : ℕ) → First (fieldRefusals stage bytes) k
+    → First (inWords stage bytes) k
 field-first stage bytes k (inl h) = inl h
 field-first stage bytes k (inr (some, inl h)) = inr (some, inl h)
 field-first stage bytes k (inr (some, inr (head, h))) =
-    inr (some, inr (head, row-first (getD bytes 0 0) (row-is (getD bytes 0 0)) stage (lengthOf bytes) (length bytes - 3) h))
+    inr (
+      some,
+      inr (
+        head,
+        row-first (getD bytes 0 0) (row-is (getD bytes 0 0)) stage (lengthOf bytes) (length bytes - 3)
+            h,
+      ),
+    )
 
 -- a field is judged
-unfoldable pub row-there : (l : Lookup) (stage : Stage) (len room : ℕ) → (k : ℕ) × First (rowRefusals l stage len room) k
+unfoldable pub row-there : (l : Lookup) (stage : Stage) (len room : ℕ)
+    → (k : ℕ) × First (rowRefusals l stage len room) k
 row-there Lookup.none stage len room = (11, inl (tt, refl))
 row-there (Lookup.row tag) stage len room =
     judge 12 (Bool-discrete (tag .stands stage) false) (λ placed.
@@ -183,7 +195,8 @@ field-there stage bytes =
 pub data Right (stage : Stage) (tag len : ℕ) : Lookup → Type 0 where
   count : stage ≡ Start → tag ≡ 1 → len ≡ 1 → Right stage tag len (Lookup.row (countRow 1))
   facts :
-      {width : ℕ} {kind : Kind} {verdict : List ℕ → ℕ} → stage ≡ Begun → FactsTag tag width kind verdict → len % width ≡ 0
+      {width : ℕ} {kind : Kind} {verdict : List ℕ → ℕ} → stage ≡ Begun → FactsTag tag width kind verdict
+      → len % width ≡ 0
       → Right stage tag len (Lookup.row (factsRow tag width kind verdict))
 
 at-start : (stage : Stage) → ¬ (atStart stage ≡ false) → stage ≡ Start
@@ -224,7 +237,8 @@ field-right stage bytes (inr (some, inr (head, h))) =
     (r .0, omega (arith, r .1))
 
 -- "10 (head bytes), 11, 12, 13, 10 (contents)"
-pub field-numbers : (stage : Stage) (bytes : List ℕ) (k : ℕ) → First (fieldRefusals stage bytes) k → k ≢ 0 → (10 ≤ k) × (k ≤ 13)
+pub field-numbers : (stage : Stage) (bytes : List ℕ) (k : ℕ) → First (fieldRefusals stage bytes) k → k ≢ 0
+    → (10 ≤ k) × (k ≤ 13)
 field-numbers stage bytes k f ne = go (field-first stage bytes k f)
   where
     go : First (inWords stage bytes) k → (10 ≤ k) × (k ≤ 13)
@@ -237,7 +251,8 @@ field-numbers stage bytes k f ne = go (field-first stage bytes k f)
     go (inr (_, inr (_, inr (_, inr (_, inr (_, inr (_, e))))))) = absurd (ne e)
 
 -- where one or two bytes are left
-pub items-short : (stage : Stage) (bytes : List ℕ) → 0 < length bytes → length bytes < 3 → First (fieldRefusals stage bytes) 10
+pub items-short : (stage : Stage) (bytes : List ℕ) → 0 < length bytes → length bytes < 3
+    → First (fieldRefusals stage bytes) 10
 items-short stage bytes some short = inr (λ e. omega arith, inl (short, refl))
 
 -- a fact has at least two bytes

@@ -38,7 +38,8 @@ off? n t m a b = both (negated (ℕ-discrete a b)) (is n t m a b)
 unfoldable pub book-there : (n : ℕ) (t : List ℕ) → (book : List ℕ) × BookOf n t book
 book-there n t = (
   field 1 (n ∷ [])
-      ++ (field 2 (bytesOf (pairsOf (Off n t 1) (off? n t 1) n)) ++ field 3 (bytesOf (pairsOf (Off n t 2) (off? n t 2) n))),
+      ++ (field 2 (bytesOf (pairsOf (Off n t 1) (off? n t 1) n))
+      ++ field 3 (bytesOf (pairsOf (Off n t 2) (off? n t 2) n))),
   record {
     yes-pairs = pairsOf (Off n t 1) (off? n t 1) n;
     no-pairs = pairsOf (Off n t 2) (off? n t 2) n;

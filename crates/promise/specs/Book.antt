@@ -20,13 +20,13 @@ use Rattle.promise.specs.Tell.{Kind, fresh, tell}
 use Rattle.promise.specs.Calls.{noSession, reply, Owed, Call, TooShort, writes}
 use Rattle.promise.specs.Clips.{truthOf}
 
--- what the contents of a field are: a class count, or facts of so many bytes each, all of one kind, with the verdict that the bytes from
--- a fact on give
+-- what the contents of a field are: a class count, or facts of so many bytes each, all of one kind, with the verdict
+-- that the bytes from a fact on give
 pub data Contents : Type 0 where
   class-count : Contents
   facts : (width : ℕ) (kind : Kind) (verdict : List ℕ → ℕ) → Contents
 
--- a tag: at which stages of reading it may stand, which lengths it allows, what its contents are, and the stage behind it
+-- a tag: at which stages of reading it may stand, the lengths it allows, its contents, and the stage behind it
 pub record TagRow : Type 0 where
   pub tag : ℕ
   pub stands : Stage → Bool
@@ -103,15 +103,16 @@ rowRefusals Lookup.none stage len room = unknownTag (Unit {0}) ∷ []
 rowRefusals (Lookup.row tag) stage len room =
     misplacedTag (tag .stands stage ≡ false) ∷ badLength (tag .allows len ≡ false) ∷ cutShort (room < len) ∷ []
 
--- "In a book an empty one gives 12; a field gives 10 (head bytes), 11, 12, 13, 10 (contents)": the field with which these bytes begin
+-- "In a book an empty one gives 12; a field gives 10 (head bytes), 11, 12, 13, 10 (contents)": the field with which
+-- these bytes begin
 abbrev pub fieldRefusals : Stage → List ℕ → List Condition
 fieldRefusals stage bytes =
     misplacedTag (length bytes ≡ 0)
     ∷ cutShort (length bytes < 3)
     ∷ rowRefusals (rowOf (getD bytes 0 0)) stage (lengthOf bytes) (length bytes - 3)
 
--- What reading comes to, one after the other, each with its place: a field, at its tag byte, with the stage of reading and all bytes from
--- there on; a class count, at the tag byte; a fact, at its first byte.
+-- What reading comes to, one after the other, each with its place: a field, at its tag byte, with the stage of reading
+-- and all bytes from there on; a class count, at the tag byte; a fact, at its first byte.
 pub data Item : Type 0 where
   head : (place : ℕ) (stage : Stage) (bytes : List ℕ) → Item
   begin : (place classes : ℕ) → Item
@@ -139,8 +140,8 @@ abbrev pub stageBehind : Lookup → Stage → Stage
 stageBehind Lookup.none stage = stage
 stageBehind (Lookup.row tag) stage = tag .behind
 
--- "A run of fields: one-byte tag, two-byte length (high byte first), that many bytes": what the bytes from place at on come to, in at
--- most fuel fields. What stands behind a field that is refused is never come to.
+-- "A run of fields: one-byte tag, two-byte length (high byte first), that many bytes": what the bytes from place at on
+-- come to, in at most fuel fields. What stands behind a field that is refused is never come to.
 unfoldable pub itemsFrom : ℕ → Stage → ℕ → List ℕ → List Item
 itemsFrom zero stage at bytes = []
 itemsFrom (suc fuel) stage at [] = []
@@ -167,8 +168,8 @@ Ends number place s t r t′ = (r ≡ reply number place s) × (t′ ≡ t)
 abbrev pub GoesOn : ℕ → ℕ → Session → List ℕ → Reply → List ℕ → Type 0 → Type 0
 GoesOn number place s t r t′ later = ((number ≢ 0) × Ends number place s t r t′) ⊎ ((number ≡ 0) × later)
 
--- From session s and table t the items are followed from the left, a class count by fresh and a fact by tell or answer: "then tag 1
--- gives 1, 2, and each fact 14, 5, 6". The reply is r, and the table is then t′.
+-- From session s and table t the items are followed from the left, a class count by fresh and a fact by tell or answer:
+-- "then tag 1 gives 1, 2, and each fact 14, 5, 6". The reply is r, and the table is then t′.
 abbrev pub Follows : List Item → Session → List ℕ → Reply → List ℕ → Type 0
 Follows [] s t r t′ = Ends 0 0 s t r t′
 Follows (Item.head place stage bytes ∷ items) s t r t′ =

@@ -1,4 +1,5 @@
--- Facts followed one by one, and fields one by one: what is followed from here on gives what was to be followed from the start.
+-- Facts followed one by one, and fields one by one: what is followed from here on gives what was to be followed from
+-- the start.
 -- Assumes nothing.
 use mathlib.Core.Path.{_≡_, refl, sym, _∙_, ap, subst}
 use mathlib.Core.Logic.{_≢_, inl, inr}
@@ -27,25 +28,27 @@ use Rattle.reading.proofs.Following.{follows-on, follows-stop}
 -- the facts of a field
 
 -- so many facts from an index on
-abbrev factsLeft : Row → List ℕ → ℕ → ℕ → List Item
-factsLeft row book at count =
+abbrev restOf : Row → List ℕ → ℕ → ℕ → List Item
+restOf row book at count =
     factsFrom count (row .width) (kindOf (row .answers)) (verdictBy (row .answers) (row .verdict)) at (drop at book)
 
 -- the facts from index at on may be followed, and following them follows all
-pub record Facing
-    (row : Row) (book : List ℕ) (from size : ℕ) (s₀ : Session) (t₀ : List ℕ) (at : ℕ) (s : Session) (t : List ℕ) : Type 0 where
+pub record FactsLeft
+    (row : Row) (book : List ℕ) (from size : ℕ) (s₀ : Session) (t₀ : List ℕ) (at : ℕ) (s : Session) (t : List ℕ) : Type
+    0 where
   pub wide : WideRow row
   pub count : ℕ
   pub whole : from + size ≡ at + count * row .width
   pub within : from + size ≤ length book
   pub stands : First (standing s t []) 0
   pub kept : length t ≡ length t₀
-  pub all : (r : Reply) (t′ : List ℕ) → Follows (factsLeft row book at count) s t r t′ → Follows (factsAt row book from size) s₀ t₀ r t′
+  pub all : (r : Reply) (t′ : List ℕ) → Follows (restOf row book at count) s t r t′
+      → Follows (factsAt row book from size) s₀ t₀ r t′
 
-pub facing :
+pub facts-left :
     {row : Row} {book : List ℕ} {from size : ℕ} {s : Session} {t : List ℕ} → FactsReady row book from size s t
-    → size % row .width ≡ 0 → Facing row book from size s t from s t
-facing {row} {size = size} h e =
+    → size % row .width ≡ 0 → FactsLeft row book from size s t from s t
+facts-left {row} {size = size} h e =
     record {
       wide = h .wide;
       count = size / row .width;
@@ -58,7 +61,7 @@ facing {row} {size = size} h e =
 
 module _
     {row : Row} {book : List ℕ} {from size : ℕ} {s₀ : Session} {t₀ : List ℕ} {at : ℕ} {s : Session} {t : List ℕ}
-    (h : Facing row book from size s₀ t₀ at s t)
+    (h : FactsLeft row book from size s₀ t₀ at s t)
   where
     -- a fact is left, and it is whole
     one-left : at < from + size → (k : ℕ) × (h .count ≡ suc k)
@@ -81,39 +84,44 @@ module _
     one-ready l =
         record { wide = h .wide; within = omega (arith, fits l, h .within); stands = h .stands }
 
-    module _ (l : at < from + size) {r : Reply} {t₁ : List ℕ} (part : PartFollowed (factAt row book at ∷ []) s t r t₁) where
-      abbrev facts-behind : List Item
-      facts-behind = factsLeft row book (at + row .width) (one-left l .0)
+    module _ (l : at < from + size) {r : Reply} {t₁ : List ℕ} (part : PartFollowed (factAt row book at ∷ []) s t r t₁)
+      where
+        abbrev facts-behind : List Item
+        facts-behind = restOf row book (at + row .width) (one-left l .0)
 
-      from-here : {q : Reply} {t′ : List ℕ} → Follows (factAt row book at ∷ facts-behind) s t q t′ → Follows (factsAt row book from size) s₀ t₀ q t′
-      from-here {q} {t′} f =
-          h .all q t′
-          (subst (λ (items : List Item). Follows items s t q t′)
-          (sym
-          (ap (factsLeft row book at) (one-left l .1)
-          ∙ facts-step (one-left l .0) (row .width) (kindOf (row .answers)) (verdictBy (row .answers) (row .verdict)) at book))
-          f)
+        from-here : {q : Reply} {t′ : List ℕ} → Follows (factAt row book at ∷ facts-behind) s t q t′
+            → Follows (factsAt row book from size) s₀ t₀ q t′
+        from-here {q} {t′} f =
+            h .all q t′
+            (subst (λ (items : List Item). Follows items s t q t′)
+            (sym
+            (ap (restOf row book at) (one-left l .1)
+            ∙ facts-step (one-left l .0) (row .width) (kindOf (row .answers))
+            (verdictBy (row .answers) (row .verdict)) at book))
+            f)
 
-      pub refused-here : r .number ≢ 0 → PartFollowed (factsAt row book from size) s₀ t₀ r t₁
-      refused-here ne =
-          record {
-            follows = from-here (follows-stop facts-behind r t₁ ne (factAt row book at ∷ []) s t (part .follows));
-            stands = λ z. absurd (ne z);
-          }
+        pub refused-here : r .number ≢ 0 → PartFollowed (factsAt row book from size) s₀ t₀ r t₁
+        refused-here ne =
+            record {
+              follows = from-here (follows-stop facts-behind r t₁ ne (factAt row book at ∷ []) s t (part .follows));
+              stands = λ z. absurd (ne z);
+            }
 
-      pub facing-next : r .number ≡ 0 → length t₁ ≡ length t → Facing row book from size s₀ t₀ (at + row .width) (r .session) t₁
-      facing-next z same =
-          let left = one-left l in
-          let w = rw (left .1) at (h .whole) in
-          record {
-            wide = h .wide;
-            count = left .0;
-            whole = omega (arith, suc-mul (left .0) (row .width));
-            within = h .within;
-            stands = part .stands z;
-            kept = same ∙ h .kept;
-            all = λ q t′ f. from-here (follows-on facts-behind r q t₁ t′ z (factAt row book at ∷ []) s t (part .follows) f);
-          }
+        pub facts-next : r .number ≡ 0 → length t₁ ≡ length t
+            → FactsLeft row book from size s₀ t₀ (at + row .width) (r .session) t₁
+        facts-next z same =
+            let left = one-left l in
+            let w = rw (left .1) at (h .whole) in
+            record {
+              wide = h .wide;
+              count = left .0;
+              whole = omega (arith, suc-mul (left .0) (row .width));
+              within = h .within;
+              stands = part .stands z;
+              kept = same ∙ h .kept;
+              all = λ q t′ f. from-here
+                  (follows-on facts-behind r q t₁ t′ z (factAt row book at ∷ []) s t (part .follows) f);
+            }
 
     pub all-followed : from + size ≤ at → PartFollowed (factsAt row book from size) s₀ t₀ (accepted s) t
     all-followed l =
@@ -122,8 +130,9 @@ module _
               h .all (accepted s) t
               (subst (λ (items : List Item). Follows items s t (accepted s) t)
               (sym
-              (ap (factsLeft row book at) (none (h .count) (h .whole))
-              ∙ facts-end (row .width) (kindOf (row .answers)) (verdictBy (row .answers) (row .verdict)) at (drop at book)))
+              (ap (restOf row book at) (none (h .count) (h .whole))
+              ∙ facts-end (row .width) (kindOf (row .answers)) (verdictBy (row .answers) (row .verdict)) at
+              (drop at book)))
               (refl, refl));
           stands = λ _. h .stands;
         }
@@ -135,14 +144,15 @@ module _
 -- the fields of a book
 
 -- the book from index at on may be read, and following its items follows all
-pub record Reading (book t₀ : List ℕ) (at : ℕ) (stage : Stage) (s : Session) (t : List ℕ) : Type 0 where
+pub record FieldsLeft (book t₀ : List ℕ) (at : ℕ) (stage : Stage) (s : Session) (t : List ℕ) : Type 0 where
   pub within : at ≤ length book
   pub kept : length t ≡ length t₀
   pub stands : stage ≡ Begun → First (standing s t []) 0
-  pub all : (r : Reply) (t′ : List ℕ) → Follows (itemsAt book stage at) s t r t′ → Follows (itemsOf book) noSession t₀ r t′
+  pub all : (r : Reply) (t′ : List ℕ) → Follows (itemsAt book stage at) s t r t′
+      → Follows (itemsOf book) noSession t₀ r t′
 
-pub reading : (book t : List ℕ) → length book ≢ 0 → Reading book t 0 Start noSession t
-reading book t some =
+pub fields-left : (book t : List ℕ) → length book ≢ 0 → FieldsLeft book t 0 Start noSession t
+fields-left book t some =
     record {
       within = omega arith;
       kept = refl;
@@ -155,7 +165,7 @@ pub read-empty : (book t : List ℕ) → length book ≡ 0 → BookRead book t (
 read-empty [] t e = record { followed = (12, inl (refl, refl), inl (λ z. omega arith, (refl, refl))) }
 read-empty (x ∷ book) t e = absurd (omega arith)
 
-module _ {book t₀ : List ℕ} {at : ℕ} {stage : Stage} {s : Session} {t : List ℕ} (h : Reading book t₀ at stage s t) where
+module _ {book t₀ : List ℕ} {at : ℕ} {stage : Stage} {s : Session} {t : List ℕ} (h : FieldsLeft book t₀ at stage s t) where
   pub field-ready : {size : ℕ} → at < length book → size ≡ lengthOf (drop at book) → FieldReady stage book at size s t
   field-ready l e = record { some = l; gives = e; stands = h .stands }
 
@@ -167,7 +177,8 @@ module _ {book t₀ : List ℕ} {at : ℕ} {stage : Stage} {s : Session} {t : Li
       items-behind = itemsAt book (stageBehind (rowOf (getD (drop at book) 0 0)) stage) (at + sizeOf (drop at book))
 
       whole :
-          (q : Reply) (t′ : List ℕ) → Follows (Item.head at stage (drop at book) ∷ saidAt book at ++ items-behind) s t q t′
+          (q : Reply) (t′ : List ℕ)
+          → Follows (Item.head at stage (drop at book) ∷ saidAt book at ++ items-behind) s t q t′
           → Follows (itemsOf book) noSession t₀ q t′
       whole q t′ f =
           h .all q t′ (subst (λ (items : List Item). Follows items s t q t′) (sym (items-field book stage at l)) f)
@@ -176,13 +187,15 @@ module _ {book t₀ : List ℕ} {at : ℕ} {stage : Stage} {s : Session} {t : Li
       book-refused ne =
           record {
             followed =
-                whole r t₁ (follows-stop items-behind r t₁ ne (Item.head at stage (drop at book) ∷ saidAt book at) s t (part .follows));
+                whole r t₁ (follows-stop items-behind r t₁ ne (Item.head at stage (drop at book) ∷ saidAt book at) s t
+                (part .follows));
           }
 
       right-here : r .number ≡ 0 → First (fieldRefusals stage (drop at book)) 0
       right-here z = go (part .follows)
         where
-          go : Follows (Item.head at stage (drop at book) ∷ saidAt book at) s t r t₁ → First (fieldRefusals stage (drop at book)) 0
+          go : Follows (Item.head at stage (drop at book) ∷ saidAt book at) s t r t₁
+              → First (fieldRefusals stage (drop at book)) 0
           go (k, first, inl (ne, e)) = absurd (ne (sym (ap (λ (x : Reply). x .number) (e .0)) ∙ z))
           go (k, first, inr (e, _)) = subst (First (fieldRefusals stage (drop at book))) e first
 
@@ -190,10 +203,10 @@ module _ {book t₀ : List ℕ} {at : ℕ} {stage : Stage} {s : Session} {t : Li
       pub next-within : r .number ≡ 0 → at + sizeOf (drop at book) ≤ length book
       next-within z = ends-within book at stage (right-here z)
 
-      pub reading-on :
+      pub fields-next :
           (next : ℕ) → next ≡ at + sizeOf (drop at book) → r .number ≡ 0 → length t₁ ≡ length t
-          → Reading book t₀ next Begun (r .session) t₁
-      reading-on next e z same =
+          → FieldsLeft book t₀ next Begun (r .session) t₁
+      fields-next next e z same =
           rw e
           (record {
             within = next-within z;
@@ -201,8 +214,10 @@ module _ {book t₀ : List ℕ} {at : ℕ} {stage : Stage} {s : Session} {t : Li
             stands = λ _. part .stands z;
             all = λ q t′ f.
                 whole q t′
-                (follows-on items-behind r q t₁ t′ z (Item.head at stage (drop at book) ∷ saidAt book at) s t (part .follows)
-                (subst (λ (stage₁ : Stage). Follows (itemsAt book stage₁ (at + sizeOf (drop at book))) (r .session) t₁ q t′)
+                (follows-on items-behind r q t₁ t′ z (Item.head at stage (drop at book) ∷ saidAt book at) s t
+                (part .follows)
+                (subst (λ (stage₁ : Stage). Follows (itemsAt book stage₁ (at + sizeOf (drop at book))) (r .session) t₁ q
+                t′)
                 (sym (stage-behind stage (drop at book) (right-here z))) f));
           })
 

@@ -1,4 +1,5 @@
--- Items followed one part after the other: a part that was refused ends the reading, and one that was not leads on to the rest.
+-- Items followed one part after the other: a part that was refused ends the reading, and one that was not leads on to
+-- the rest.
 -- Assumes nothing.
 use mathlib.Core.Path.{_≡_, refl, sym, _∙_, ap, subst}
 use mathlib.Core.Logic.{_≢_, inl, inr}
@@ -95,7 +96,8 @@ bad-verdict l =
 
 -- a fact is taken as the code takes it: 1 is yes
 pub fact-taken :
-    {p a b v : ℕ} {kind : Kind} {s : Session} {t : List ℕ} {q r : Reply} {t′ : List ℕ} → First (standing s t []) 0 → v ≤ 1
+    {p a b v : ℕ} {kind : Kind} {s : Session} {t : List ℕ} {q r : Reply} {t′ : List ℕ} → First (standing s t []) 0
+    → v ≤ 1
     → Owed (tell kind s t (factOn a b (eqb v 1))) (q, t′) → ReplyPlaced p q r
     → PartFollowed (Item.said p kind a b v ∷ []) s t r t′
 fact-taken {p} {a} {b} {v} {kind} {s} {t} {q} {r} {t′} stands l h placed =
@@ -125,7 +127,8 @@ count-taken {q = q} {t′ = t′} h placed =
 
 -- a field that is refused, and one that is not with what it says
 pub field-refused :
-    {p k : ℕ} {stage : Stage} {bytes : List ℕ} {s : Session} {t : List ℕ} (items : List Item) → First (fieldRefusals stage bytes) k
+    {p k : ℕ} {stage : Stage} {bytes : List ℕ} {s : Session} {t : List ℕ} (items : List Item)
+    → First (fieldRefusals stage bytes) k
     → k ≢ 0 → PartFollowed (Item.head p stage bytes ∷ items) s t (reply k p s) t
 field-refused {k = k} items first ne =
     record { follows = (k, first, inl (ne, (refl, refl))); stands = λ e. absurd (ne e) }

@@ -103,13 +103,15 @@ followable {stage} {book} {at} {row} {size} head right =
     let l = length-drop at book in
     let some = head .some in
     let allowed : RightLookup (rowFor (getD (drop at book) 0 0) row) stage size =
-    rw (head .gives) (subst (λ (l : Lookup). RightLookup l stage (lengthOf (drop at book))) (head .has-row) (right-lookup (r .0)))
+    rw (head .gives) (subst (λ (l : Lookup). RightLookup l stage (lengthOf (drop at book))) (head .has-row)
+    (right-lookup (r .0)))
     in
     go (row .known) (row .begins) refl refl allowed (omega (arith, r .1, head .gives))
   where
     go :
         (known begins : Bool) → row .known ≡ known → row .begins ≡ begins
-        → RightLookup (rowBy known begins (getD (drop at book) 0 0) (row .width) (row .answers) (row .verdict)) stage size
+        → RightLookup (rowBy known begins (getD (drop at book) 0 0) (row .width) (row .answers) (row .verdict)) stage
+        size
         → at + (3 + size) ≤ length book → Followable stage book at row size
     go false begins k b allowed within = absurd allowed
     go true true k b allowed within =
@@ -119,12 +121,13 @@ followable {stage} {book} {at} {row} {size} head right =
 
 -- what it says
 
-module _ {book : List ℕ} {at : ℕ} {row : Row} {size : ℕ} (head : HeadRead book at row size) (known : row .known ≡ true) where
-  count-said : row .begins ≡ true → saidAt book at ≡ Item.begin at (getD book (at + 3) 0) ∷ []
-  count-said begins = rw (head .has-row, known, begins, getD-drop at book 3 0) refl
+module _ {book : List ℕ} {at : ℕ} {row : Row} {size : ℕ} (head : HeadRead book at row size) (known : row .known ≡ true)
+  where
+    count-said : row .begins ≡ true → saidAt book at ≡ Item.begin at (getD book (at + 3) 0) ∷ []
+    count-said begins = rw (head .has-row, known, begins, getD-drop at book 3 0) refl
 
-  facts-said : row .begins ≡ false → saidAt book at ≡ factsAt row book (at + 3) size
-  facts-said facts = rw (head .has-row, known, facts, ← head .gives, drop-drop 3 at book) refl
+    facts-said : row .begins ≡ false → saidAt book at ≡ factsAt row book (at + 3) size
+    facts-said facts = rw (head .has-row, known, facts, ← head .gives, drop-drop 3 at book) refl
 
 -- a field that is not refused may be followed
 

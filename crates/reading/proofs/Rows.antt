@@ -35,7 +35,8 @@ plain-row tag y n a = go (row-is tag)
     none f = other tag f y n a
       where
         other :
-            (k : ℕ) {width : ℕ} {kind : Kind} {verdict : List ℕ → ℕ} → FactsTag k width kind verdict → k ≢ 2 → k ≢ 3 → k ≢ 4 → ⊥
+            (k : ℕ) {width : ℕ} {kind : Kind} {verdict : List ℕ → ℕ} → FactsTag k width kind verdict → k ≢ 2 → k ≢ 3
+            → k ≢ 4 → ⊥
         other k FactsTag.yes-facts y n a = y refl
         other k FactsTag.no-facts y n a = n refl
         other k FactsTag.answers y n a = a refl

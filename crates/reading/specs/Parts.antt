@@ -67,7 +67,8 @@ factAt row book at =
 
 abbrev pub factsAt : Row → List ℕ → ℕ → ℕ → List Item
 factsAt row book at size =
-    factsFrom (size / row .width) (row .width) (kindOf (row .answers)) (verdictBy (row .answers) (row .verdict)) at (drop at book)
+    factsFrom (size / row .width) (row .width) (kindOf (row .answers)) (verdictBy (row .answers) (row .verdict)) at
+    (drop at book)
 
 -- what the field says whose tag byte stands at an index
 abbrev pub saidAt : List ℕ → ℕ → List Item
@@ -78,8 +79,8 @@ pub record ReplyPlaced (place : ℕ) (given r : Reply) : Type 0 where
   pub refused : given .number ≢ 0 → r ≡ reply (given .number) place (given .session)
   pub accepted : given .number ≡ 0 → r ≡ given
 
--- The items of a part were followed from session s and table t: the reply is r, and the table is then t′. Where none was refused, the
--- reading can go on with both.
+-- The items of a part were followed from session s and table t: the reply is r, and the table is then t′. Where none
+-- was refused, the reading can go on with both.
 pub record PartFollowed (items : List Item) (s : Session) (t : List ℕ) (r : Reply) (t′ : List ℕ) : Type 0 where
   pub follows : Follows items s t r t′
   pub stands : r .number ≡ 0 → First (standing (r .session) t′ []) 0
@@ -96,7 +97,7 @@ pub record HeadRead (book : List ℕ) (at : ℕ) (row : Row) (size : ℕ) : Type
   pub has-row : rowOf (getD (drop at book) 0 0) ≡ rowFor (getD (drop at book) 0 0) row
   pub gives : size ≡ lengthOf (drop at book)
 
--- a field that may be read: some byte is left, and once a class count is accepted, a session and a table that can be used
+-- a field that may be read: some byte is left, and session and table can be used once a class count is accepted
 pub record FieldReady (stage : Stage) (book : List ℕ) (at size : ℕ) (s : Session) (t : List ℕ) : Type 0 where
   pub some : at < length book
   pub gives : size ≡ lengthOf (drop at book)

@@ -36,7 +36,8 @@ pub fn placed(reply: Reply, place: usize) -> Reply
 // The fact at an index is told, or given as an answer.
 fn fact(book: &[u8], row: Row, at: usize, session: Session, table: &mut [u8]) -> Reply
     requires { ⌜ FactsReady row (now book) at (row .width) session (now table) ⌝ }
-    ensures { λ r. ⌜ PartFollowed (factAt row (now (book .entry)) at ∷ []) session (now (table .entry)) r (now (table .exit)) ⌝ }
+    ensures { λ r. ⌜ PartFollowed (factAt row (now (book .entry)) at ∷ []) session (now (table .entry)) r
+        (now (table .exit)) ⌝ }
 {
     let verdict = verdict(book, row, at);
     if 1 < verdict {
@@ -59,7 +60,8 @@ pub fn follow_facts(
     table: &mut [u8],
 ) -> Reply
     requires { ⌜ FactsReady row (now book) from size session (now table) × (size % row .width ≡ 0) ⌝ }
-    ensures { λ r. ⌜ PartFollowed (factsAt row (now (book .entry)) from size) session (now (table .entry)) r (now (table .exit)) ⌝ }
+    ensures { λ r. ⌜ PartFollowed (factsAt row (now (book .entry)) from size) session (now (table .entry)) r
+        (now (table .exit)) ⌝ }
 {
     let to = from + size;
     let mut at = from;

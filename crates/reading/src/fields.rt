@@ -43,6 +43,7 @@ pub fn field_refusal(stage: Stage, book: &[u8], at: usize, row: Row, size: usize
     if left < 3 {
         return CUT_SHORT;
     }
+    let room = left - 3;
     if !row.known {
         return UNKNOWN_TAG;
     }
@@ -54,7 +55,6 @@ pub fn field_refusal(stage: Stage, book: &[u8], at: usize, row: Row, size: usize
     if !allowed {
         return BAD_LENGTH;
     }
-    let room = left - 3;
     if room < size {
         return CUT_SHORT;
     }

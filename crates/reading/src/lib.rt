@@ -53,8 +53,8 @@ fn read_field(
     table: &mut [u8],
 ) -> Reply
     requires { ⌜ FieldReady stage (now book) at size session (now table) ⌝ }
-    ensures { λ r. ⌜ PartFollowed (Item.head at stage (drop at (now (book .entry))) ∷ saidAt (now (book .entry)) at) session
-        (now (table .entry)) r (now (table .exit)) ⌝ }
+    ensures { λ r. ⌜ PartFollowed (Item.head at stage (drop at (now (book .entry))) ∷ saidAt (now (book .entry)) at)
+        session (now (table .entry)) r (now (table .exit)) ⌝ }
 {
     let row = row_of(book[at]);
     let number = field_refusal(stage, book, at, row, size);
@@ -64,8 +64,8 @@ fn read_field(
     follow_field(book, at, row, size, session, table)
 }
 
-// Reads a book, field by field, on a fresh table. A refused book gives its number and place; session and table are those after the facts
-// before it, and no session where no class count was accepted.
+// Reads a book, field by field, on a fresh table. A refused book gives its number and place; session and table are
+// those after the facts before it, and no session where no class count was accepted.
 pub fn read(book: &[u8], table: &mut [u8]) -> Reply
     ensures { λ r. ⌜ BookRead (now (book .entry)) (now (table .entry)) r (now (table .exit)) ⌝ }
 {

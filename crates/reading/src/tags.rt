@@ -10,8 +10,8 @@ ghost use mathlib.Core.Bool.{false};
 ghost use Rattle.promise.specs.Book.{rowOf};
 ghost use Rattle.reading.specs.Parts.{withFacts, withoutFacts, rowFor, standsAt, allowsLength};
 
-// The row of a tag: whether it has one; whether its contents are the class count, with which a book begins; and of facts the bytes that each
-// has, whether they are answers, and the verdict of those that are told.
+// The row of a tag: whether it has one; whether its contents are the class count, with which a book begins; and of
+// facts the bytes that each has, whether they are answers, and the verdict of those that are told.
 pub struct Row {
     pub known: bool,
     pub begins: bool,
@@ -62,7 +62,7 @@ pub fn row_of(tag: u8) -> Row
     no_facts(tag == CLASS_COUNT)
 }
 
-// Whether a field with this row may stand at a stage of reading: the class count at the start, facts once it is accepted.
+// Whether a field with this row may stand at a stage: the class count at the start, facts once it is accepted.
 pub fn stands(row: Row, stage: Stage) -> bool
     ensures { λ r. ⌜ r ≡ standsAt (row .begins) stage ⌝ }
 {

@@ -5,12 +5,12 @@ use Prim.Native.Nat.{_+_, _-_, _≤_}
 use native.Mathlib.Omega.{arith}
 use borrow.Author.Needs.{needs}
 use lib.ListN.{length}
-use Rattle.reading.proofs.Advance.{Reading, reading, read-empty, field-ready, book-refused, next-within, reading-on, book-read}
+use Rattle.reading.proofs.Advance.{FieldsLeft, fields-left, read-empty, field-ready, book-refused, next-within, fields-next, book-read}
 use Rattle.reading.proofs.read.Statement.{statement}
 use Rattle.reading.proofs.read.Tie as tie
 
 abbrev Inv-loop : tie.InvT-loop
-Inv-loop book table₀ session₀ stage₀ at₀ table session stage at = Reading book table₀ at stage session table
+Inv-loop book table₀ session₀ stage₀ at₀ table session stage at = FieldsLeft book table₀ at stage session table
 
 abbrev μ-loop : tie.MeasureT-loop
 μ-loop book table₀ session₀ stage₀ at₀ table session stage at = length book - at
@@ -25,14 +25,15 @@ returns : tie.Need-returns Inv-loop μ-loop
 returns c = rw (c .stopped .ensures, c .before .before .no-session .ensures) (read-empty _ _ (c .before .if1 .taken))
 
 loop-holds : tie.Need-loop-holds Inv-loop μ-loop
-loop-holds c = rw (c .before .no-session .ensures) (reading _ _ (c .if1 .left))
+loop-holds c = rw (c .before .no-session .ensures) (fields-left _ _ (c .if1 .left))
 
 length-at-requires : tie.Need-length-at-requires Inv-loop μ-loop
 length-at-requires c κs = c .loop-test .taken
 
 read-field-requires : tie.Need-read-field-requires Inv-loop μ-loop
 read-field-requires c κs =
-    let inside = c .before .before in field-ready (inside .before .loop .inv) (inside .loop-test .taken) (c .before .length-at .ensures .0)
+    let inside = c .before .before in
+    field-ready (inside .before .loop .inv) (inside .loop-test .taken) (c .before .length-at .ensures .0)
 
 same-length : tie.Need-same-length Inv-loop μ-loop
 same-length c =
@@ -57,7 +58,8 @@ next c =
     let inside = called .before .before .before in
     omega (
       arith,
-      next-within (inside .before .loop .inv) (inside .loop-test .taken) (called .read-field .ensures) (c .before .if2 .left),
+      next-within (inside .before .loop .inv) (inside .loop-test .taken) (called .read-field .ensures)
+          (c .before .if2 .left),
       called .before .before .length-at .ensures .0,
     )
 
@@ -74,7 +76,7 @@ loop-again : tie.Need-loop-again Inv-loop μ-loop
 loop-again c =
     let called = c .before .before .before .before .before in
     let inside = called .before .before .before in
-    reading-on (inside .before .loop .inv) (inside .loop-test .taken) (called .read-field .ensures) _
+    fields-next (inside .before .loop .inv) (inside .loop-test .taken) (called .read-field .ensures) _
     (omega (arith, called .before .before .length-at .ensures .0)) (c .before .if2 .left)
     (called .read-field .kept .1 .1 .1 .1 .1 .0)
 

@@ -46,7 +46,8 @@ follow-field-requires c κs =
       head = head (judged .before);
       stage = start .args .stage;
       right =
-          subst (First (fieldRefusals (start .args .stage) (drop (start .args .at) (start .args .book .now)))) (tested .if1 .left)
+          subst (First (fieldRefusals (start .args .stage) (drop (start .args .at) (start .args .book .now))))
+          (tested .if1 .left)
           (judged .field-refusal .ensures);
       stands = start .pre .stands;
     }

@@ -18,19 +18,24 @@ returns : tie.Need-returns
 returns c = rw (c .stopped .ensures) (bad-verdict (omega (arith, c .before .before .verdict .ensures)))
 
 add-second : tie.Need-add-second
-add-second c = let p = c .before .before .before .before .pre in omega (arith, p .within, wide-most (c .before .before .before .before .args .row) (p .wide) .0)
+add-second c = let p = c .before .before .before .before .pre in
+    omega (arith, p .within, wide-most (c .before .before .before .before .args .row) (p .wide) .0)
 
 shared-slice-read-lower : tie.Need-shared-slice-read-lower
-shared-slice-read-lower c = let p = c .before .before .before .before .before .pre in omega (arith, p .within, wide-most (c .before .before .before .before .before .args .row) (p .wide) .0)
+shared-slice-read-lower c = let p = c .before .before .before .before .before .pre in
+    omega (arith, p .within, wide-most (c .before .before .before .before .before .args .row) (p .wide) .0)
 
 cast-lower : tie.Need-cast-lower
 cast-lower c = omega (arith, c .shared-slice-known2 .given (c .before .before .before .before .before .args .at))
 
 shared-slice-read-upper : tie.Need-shared-slice-read-upper
-shared-slice-read-upper c = let p = c .before .before .before .before .before .before .pre in omega (arith, p .within, wide-most (c .before .before .before .before .before .before .args .row) (p .wide) .0)
+shared-slice-read-upper c = let p = c .before .before .before .before .before .before .pre in
+    omega (arith, p .within, wide-most (c .before .before .before .before .before .before .args .row) (p .wide) .0)
 
 cast-upper : tie.Need-cast-upper
-cast-upper c = omega (arith, c .shared-slice-known3 .given (c .before .before .before .before .before .before .args .at + 1))
+cast-upper c =
+    let a = c .before .before .before .before .before .before .args in
+    omega (arith, c .shared-slice-known3 .given (a .at + 1))
 
 take-fact-requires : tie.Need-take-fact-requires
 take-fact-requires c κs = search needs
@@ -46,7 +51,8 @@ returns-2 c =
     let tested = c .before .before .before .before .before .before .before in
     let start = tested .before .before .before .before in
     rw (← tested .before .verdict .ensures)
-    (fact-taken (start .pre .stands) (tested .if1 .left) (c .before .before .before .take-fact .ensures) (c .placed .ensures))
+    (fact-taken (start .pre .stands) (tested .if1 .left) (c .before .before .before .take-fact .ensures)
+    (c .placed .ensures))
 
 pub fact-spec : {M : Type 1} → statement M
 fact-spec =

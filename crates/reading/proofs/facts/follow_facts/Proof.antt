@@ -4,13 +4,13 @@ use mathlib.Core.Path.{_∙_}
 use Prim.Native.Nat.{_-_}
 use native.Mathlib.Omega.{arith}
 use borrow.Author.Needs.{needs}
-use Rattle.reading.proofs.Advance.{Facing, facing, some-bytes, fits, one-ready, refused-here, facing-next, all-followed}
+use Rattle.reading.proofs.Advance.{FactsLeft, facts-left, some-bytes, fits, one-ready, refused-here, facts-next, all-followed}
 use Rattle.reading.proofs.facts.follow_facts.Statement.{statement}
 use Rattle.reading.proofs.facts.follow_facts.Tie as tie
 
 abbrev Inv-loop : tie.InvT-loop
 Inv-loop book row from size table₀ to at₀ current₀ table at current =
-    Facing row book from size current₀ table₀ at current table
+    FactsLeft row book from size current₀ table₀ at current table
 
 abbrev μ-loop : tie.MeasureT-loop
 μ-loop book row from size table₀ to at₀ current₀ table at current = to - at
@@ -19,7 +19,7 @@ add-to : tie.Need-add-to Inv-loop μ-loop
 add-to c = search needs
 
 loop-holds : tie.Need-loop-holds Inv-loop μ-loop
-loop-holds c = let p = c .before .before .pre in facing (p .0) (p .1)
+loop-holds c = let p = c .before .before .pre in facts-left (p .0) (p .1)
 
 fact-requires : tie.Need-fact-requires Inv-loop μ-loop
 fact-requires c κs = one-ready (c .before .before .loop .inv) (c .before .loop-test .taken)
@@ -52,7 +52,8 @@ loop-again : tie.Need-loop-again Inv-loop μ-loop
 loop-again c =
     let called = c .before .before .before .before .before .before in
     let inside = called .before .before in
-    facing-next (inside .before .loop .inv) (inside .loop-test .taken) (called .fact .ensures) (c .before .before .if1 .left)
+    facts-next (inside .before .loop .inv) (inside .loop-test .taken) (called .fact .ensures)
+    (c .before .before .if1 .left)
     (called .fact .kept .1 .1 .1 .1 .0)
 
 accepted-requires : tie.Need-accepted-requires Inv-loop μ-loop

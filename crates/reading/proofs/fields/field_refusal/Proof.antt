@@ -19,7 +19,8 @@ returns c = field-short _ (c .before .before .pre) (c .if1 .taken)
 
 returns-2 : tie.Need-returns-2
 returns-2 c =
-    let whole = c .before .before in field-unknown _ (whole .before .before .pre) (whole .if1 .left) (not-true _ (c .if2 .taken))
+    let whole = c .before .before in
+    field-unknown _ (whole .before .before .pre) (whole .if1 .left) (not-true _ (c .if2 .taken))
 
 stands-requires : tie.Need-stands-requires
 stands-requires c κs = search needs
@@ -40,7 +41,11 @@ allows-requires c κs =
     let tested = c .before .before in
     let start = tested .before .before .before .before in
     λ facts.
-    omega (arith, wide-most (start .args .row) (wide-row _ (start .args .row) (start .pre .has-row) (known tested) facts) .0)
+    omega (
+      arith,
+      wide-most (start .args .row)
+          (wide-row _ (start .args .row) (start .pre .has-row) (known tested) facts) .0,
+    )
 
 -- it may stand there
 placed : (c : tie.Else3) → c .before .stands .result ≡ true

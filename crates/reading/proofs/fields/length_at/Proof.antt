@@ -33,7 +33,13 @@ add-result c = search needs
 returns : tie.Need-returns
 returns c =
     let a = c .before .before .before .args in (
-      rw (getD-drop (a .at) (a .book .now) 1 0, getD-drop (a .at) (a .book .now) 2 0, ← c .before .byte-at .ensures, ← c .byte-at2 .ensures)
+      rw (
+        getD-drop (a .at) (a .book .now) 1 0,
+        getD-drop (a .at) (a .book .now) 2 0,
+        ← c .before .byte-at .ensures,
+        ← c
+            .byte-at2 .ensures,
+      )
           refl,
       search needs,
     )

@@ -29,7 +29,8 @@ no-facts-requires c κs = search needs
 returns-4 : tie.Need-returns-4
 returns-4 c =
     let rest = c .before in
-    rw (c .no-facts .ensures) (plain-row _ (rest .before .before .if1 .left) (rest .before .if2 .left) (rest .if3 .left))
+    rw (c .no-facts .ensures)
+    (plain-row _ (rest .before .before .if1 .left) (rest .before .if2 .left) (rest .if3 .left))
 
 pub row-of-spec : {M : Type 1} → statement M
 row-of-spec =
