@@ -7,13 +7,12 @@ use Prim.Native.Nat.{ℕ, _+_, _*_, _/_, _%_, _≤_, _<_}
 use native.Mathlib.Omega.{arith}
 use lib.ListN.{length}
 use Rattle.order.specs.Tables.{Pair, bytesOf}
-use Rattle.order.specs.Refusals.{First}
+use Rattle.promise.specs.Refusals.{First, standing}
 use Rattle.order.proofs.Pairs.{lists-unique, pairsOf, before-all, pairs-listed, length-bytes}
 use Rattle.order.proofs.Counting.{before-length}
 use Rattle.promise.specs.declared.Session.{Session}
 use Rattle.promise.specs.declared.Counted.{Counted}
 use Rattle.promise.specs.declared.Counted.the-variants.{Count, Refused}
-use Rattle.promise.specs.Refusals.{standing}
 use Rattle.promise.specs.Calls.{Owed}
 use Rattle.promise.specs.Book.{field, PairsMarked, BookOf, writeRefusals, write}
 use Rattle.promise.proofs.Standing.{Stands, standing-refused, first-stands, square}

@@ -17,8 +17,7 @@ use promise::Session;
 use session::accepted;
 use session::refused;
 ghost use mathlib.Core.List.{[]};
-ghost use Rattle.order.specs.Refusals.{First};
-ghost use Rattle.promise.specs.Refusals.{standing};
+ghost use Rattle.promise.specs.Refusals.{First, standing};
 ghost use Rattle.promise.specs.Calls.{Owed};
 ghost use Rattle.promise.specs.Clips.{clip, clipBytes};
 

@@ -8,12 +8,11 @@ use native.Mathlib.Omega.{arith}
 use lib.ListN.{length, getD, take, drop}
 use lib.Seq.{length-take-le, getD-take, take-at}
 use Rattle.order.specs.Tables.{Sound, opens, bytesOf}
-use Rattle.order.specs.Refusals.{First}
+use Rattle.promise.specs.Refusals.{First, standing}
 use Rattle.order.proofs.Pairs.{length-bytes}
 use Rattle.promise.specs.declared.Session.{Session}
 use Rattle.promise.specs.declared.Counted.{Counted}
 use Rattle.promise.specs.declared.Counted.the-variants.{Count, Refused}
-use Rattle.promise.specs.Refusals.{standing}
 use Rattle.promise.specs.Calls.{Owed, over, TooShort}
 use Rattle.promise.specs.Hierarchy.{Under, HeadOf, HeadsOf, StepBytes, hierarchyRefusals, hierarchy, LadderOf, ladderRefusals, ladder}
 use Rattle.promise.proofs.Standing.{Stands, standing-refused, first-stands, square}

@@ -9,14 +9,13 @@ use native.Mathlib.Nat.{mul-le-mul}
 use lib.ListN.{length, take}
 use lib.Seq.{take-at}
 use Rattle.order.specs.Tables.{opens, Pair, bytesOf}
-use Rattle.order.specs.Refusals.{First}
+use Rattle.promise.specs.Refusals.{First, standing}
 use Rattle.promise.specs.declared.Session.{Session}
 use Rattle.promise.specs.declared.Reply.{Reply}
 use Rattle.promise.specs.declared.Question.{Question}
 use Rattle.promise.specs.declared.Question.the-variants.{Ask, Done, Refused}
 use Rattle.promise.specs.declared.Counted.{Counted}
 use Rattle.promise.specs.declared.Counted.the-variants.{Count}
-use Rattle.promise.specs.Refusals.{standing}
 use Rattle.promise.specs.Calls.{openPairs, over, Owed}
 use Rattle.promise.specs.Next.{FirstOpen, next}
 use Rattle.promise.specs.Hierarchy.{HeadsOf, StepsOf, hierarchyRefusals, hierarchy}

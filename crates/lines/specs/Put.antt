@@ -5,10 +5,9 @@ use mathlib.Core.List.{List, [], _∷_, _++_}
 use Prim.Native.Nat.{ℕ, zero, suc, _+_, _*_, _≤_}
 use lib.ListN.{length, getD}
 use Rattle.order.specs.Tables.{opens, Pair}
-use Rattle.order.specs.Refusals.{First}
+use Rattle.promise.specs.Refusals.{First, standing}
 use Rattle.promise.specs.declared.Session.{Session}
 use Rattle.promise.specs.declared.Reply.{Reply}
-use Rattle.promise.specs.Refusals.{standing}
 use Rattle.promise.specs.Next.{FirstOpen}
 use Rattle.promise.specs.Hierarchy.{HeadsOf, StepsOf}
 use Rattle.buffers.specs.Placed.{Put}

@@ -8,11 +8,10 @@ use native.Mathlib.Omega.{arith}
 use lib.ListN.{take}
 use lib.Seq.{getD-take, length-take-le}
 use Rattle.order.specs.Tables.{mark, isOpen, opensTo}
-use Rattle.order.specs.Refusals.{First}
+use Rattle.promise.specs.Refusals.{First, standing}
 use Rattle.order.proofs.Bytes.{pair-below}
 use Rattle.promise.specs.declared.Session.{Session}
 use Rattle.promise.specs.declared.Reply.{Reply}
-use Rattle.promise.specs.Refusals.{standing}
 use Rattle.promise.specs.Book.{BookRead}
 use Rattle.promise.proofs.Standing.{Stands, standing-passed, first-stands, square}
 use Rattle.promise.proofs.Runs.{fresh-run-stands}

@@ -16,7 +16,7 @@ use lib.ListN.{length, drop, length-append}
 use lib.Seq.{drop-at}
 use Rattle.order.specs.Facts.{Fact, factOn, under, notUnder}
 use Rattle.order.specs.Tables.{mark, Sound, Marks, SameMarks, markFor, Pair, bytesOf}
-use Rattle.order.specs.Refusals.{First}
+use Rattle.promise.specs.Refusals.{First}
 use Rattle.order.proofs.Tables.{which, verdict-of}
 use Rattle.order.proofs.Pairs.{lists-map, length-bytes}
 use Rattle.order.proofs.Sound.{is}

@@ -7,8 +7,8 @@ use mathlib.Core.List.{List}
 use Prim.Native.Nat.{ℕ}
 use native.Mathlib.Decide.{ℕ-discrete}
 use Rattle.order.specs.Tables.{SameMarks, SameRest}
-use Rattle.order.specs.Refusals.{Condition, First}
-use Rattle.order.proofs.Refusals.{first-unique}
+use Rattle.promise.specs.Refusals.{Condition, First}
+use Rattle.promise.proofs.Refusals.{first-unique}
 use Rattle.order.proofs.Bytes.{same-list, rest-sym, rest-trans}
 use Rattle.promise.specs.declared.Session.{Session}
 use Rattle.promise.specs.declared.Reply.{Reply}

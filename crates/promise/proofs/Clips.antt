@@ -11,9 +11,9 @@ use lib.ListN.{length}
 use Rattle.order.specs.Facts.{Facts, notUnder, _and_, _⊆_, Within, Chain, Yes}
 use Rattle.order.specs.Tables.{mark, Settles, TableOf, Sound, Marks, SomeContradicts, opens, markAgainst}
 use Rattle.order.specs.Orders.{Impossible}
-use Rattle.order.specs.Refusals.{First}
+use Rattle.promise.specs.Refusals.{First, standing}
 use Rattle.order.proofs.Decide.{stable, both, negated, either, as-well, some-below}
-use Rattle.order.proofs.Refusals.{stage}
+use Rattle.promise.proofs.Refusals.{stage}
 use Rattle.order.proofs.Sets.{yes-not-no, entails-subset, within-and, OnlyNoes, Spreads, yes-after-noes, no-after-noes}
 use Rattle.order.proofs.Tables.{settles-map, table-unique, table-of-equals, sound-table, marks-within, facts-in-marks, for-not-against}
 use Rattle.order.proofs.Steps.{or-cong}
@@ -24,7 +24,6 @@ use Rattle.order.proofs.Sound.{is}
 use Rattle.order.proofs.Taking.{choose, chosen, laid, mark-laid, length-laid}
 use Rattle.promise.specs.declared.Session.{Session}
 use Rattle.promise.specs.declared.Reply.{Reply}
-use Rattle.promise.specs.Refusals.{standing}
 use Rattle.promise.specs.Calls.{refusal, accepted, Owed, over}
 use Rattle.promise.specs.Clips.{Flagged, flagsOf, ClipNo, MemberBeyond, clipRefusals, clip, FlagsFit, bytesRefusals, clipBytes}
 use Rattle.promise.specs.Runs.{StandsFor}

@@ -9,7 +9,7 @@ use native.Mathlib.Omega.{arith}
 use lib.ListN.{length, getD, set, take, drop, length-append, length-drop}
 use lib.Seq.{drop-cons, append-snoc, drop-append-add, drop-drop, set-at, take-at}
 use Rattle.order.specs.Tables.{opens}
-use Rattle.order.specs.Refusals.{Condition, First}
+use Rattle.promise.specs.Refusals.{Condition, First}
 use Rattle.promise.specs.declared.Session.{Session}
 use Rattle.promise.specs.declared.Counted.{Counted}
 use Rattle.promise.specs.declared.Counted.the-variants.{Count}

@@ -9,9 +9,9 @@ use native.Mathlib.Omega.{arith}
 use lib.ListN.{length}
 use Rattle.order.specs.Facts.{Listed}
 use Rattle.order.specs.Tables.{mark, TableOf, SameMarks, Fresh}
-use Rattle.order.specs.Refusals.{First}
+use Rattle.promise.specs.Refusals.{First}
 use Rattle.order.proofs.Decide.{stable, either}
-use Rattle.order.proofs.Refusals.{stage}
+use Rattle.promise.proofs.Refusals.{stage}
 use Rattle.order.proofs.Tables.{fresh-table, table-sound}
 use Rattle.order.proofs.Bytes.{front-mark, front-rest}
 use Rattle.order.proofs.Counts.{opens-diagonal}

@@ -11,9 +11,9 @@ use native.Mathlib.Omega.{arith}
 use lib.ListN.{length, getD}
 use lib.Seq.{ext-getD}
 use Rattle.order.specs.Tables.{mark, Sound, opens, Pair, bytesOf}
-use Rattle.order.specs.Refusals.{First}
+use Rattle.promise.specs.Refusals.{First}
 use Rattle.order.proofs.Decide.{both, either, implies, negated, as-well, all-below, least}
-use Rattle.order.proofs.Refusals.{stage}
+use Rattle.promise.proofs.Refusals.{stage}
 use Rattle.order.proofs.Pairs.{lists-unique, pairsOf, pairs-listed}
 use Rattle.promise.specs.declared.Session.{Session}
 use Rattle.promise.specs.declared.Counted.{Counted}

@@ -9,7 +9,7 @@ use native.Mathlib.Nat.{add-zero}
 use native.Mathlib.Omega.{arith}
 use lib.ListN.{length, getD, drop, length-drop, drop-of-length-le}
 use lib.Seq.{getD-drop, drop-drop}
-use Rattle.order.proofs.Refusals.{stage}
+use Rattle.promise.proofs.Refusals.{stage}
 use Rattle.promise.specs.declared.Stage.{Stage}
 use Rattle.promise.specs.declared.Stage.the-variants.{Start}
 use Rattle.promise.specs.Tell.{Kind}

@@ -10,12 +10,11 @@ use native.Mathlib.Decide.{ℕ-discrete, decLt, decLe}
 use native.Mathlib.Omega.{arith}
 use lib.ListN.{length}
 use Rattle.order.specs.Tables.{mark, Sound, opens}
-use Rattle.order.specs.Refusals.{First}
+use Rattle.promise.specs.Refusals.{First, standing}
 use Rattle.order.proofs.Decide.{stable, both, either, negated, as-well, some-below, least}
-use Rattle.order.proofs.Refusals.{stage}
+use Rattle.promise.proofs.Refusals.{stage}
 use Rattle.promise.specs.declared.Session.{Session}
 use Rattle.promise.specs.declared.Counted.{Counted}
-use Rattle.promise.specs.Refusals.{standing}
 use Rattle.promise.specs.Calls.{Owed, countNumber, TooShort}
 use Rattle.promise.specs.Hierarchy.{Under, HeadOf, Head, Third, Direct, NextRung, Ladder, LadderOf, Above, Number, ladderRefusals, ladder}
 use Rattle.promise.proofs.Standing.{Stands, standing-own, standing-passed, standing-there, below-of}

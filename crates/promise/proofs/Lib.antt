@@ -1,4 +1,5 @@
 pub mod Flags
+pub mod Refusals
 pub mod Standing
 pub mod Calls
 pub mod Fresh

@@ -9,7 +9,7 @@ use native.Mathlib.Decide.{ℕ-discrete, decLt}
 use native.Mathlib.Omega.{arith}
 use Rattle.order.specs.Facts.{Fact, factOn}
 use Rattle.order.specs.Tables.{mark, opens, Pair, Before, Lists}
-use Rattle.order.specs.Refusals.{First}
+use Rattle.promise.specs.Refusals.{First, standing}
 use Rattle.order.proofs.Counts.{opens-none}
 use Rattle.order.proofs.Pairs.{before-not, pairsOf, pairs-listed}
 use Rattle.order.proofs.Sound.{is}
@@ -18,7 +18,6 @@ use Rattle.promise.specs.declared.Session.{Session}
 use Rattle.promise.specs.declared.Reply.{Reply}
 use Rattle.promise.specs.declared.Question.{Question}
 use Rattle.promise.specs.declared.Question.the-variants.{Ask, Done, Refused}
-use Rattle.promise.specs.Refusals.{standing}
 use Rattle.promise.specs.Calls.{Owed}
 use Rattle.promise.specs.Tell.{Kind, adds, tellRefusals, tell}
 use Rattle.promise.specs.Next.{questionNumber, FirstOpen, NoneOpen, Names, next, Rounds}

@@ -11,13 +11,12 @@ use native.Mathlib.Omega.{arith}
 use lib.ListN.{length}
 use Rattle.order.specs.Facts.{Fact, factOn, notUnder, Listed, Below}
 use Rattle.order.specs.Tables.{Marks, Pair}
-use Rattle.order.specs.Refusals.{First}
+use Rattle.promise.specs.Refusals.{First, standing}
 use Rattle.order.proofs.Decide.{both, negated}
 use Rattle.order.proofs.Tables.{sound-table, marks-within}
 use Rattle.order.proofs.Pairs.{pairsOf, pairs-listed}
 use Rattle.promise.specs.declared.Session.{Session}
 use Rattle.promise.specs.declared.Reply.{Reply}
-use Rattle.promise.specs.Refusals.{standing}
 use Rattle.promise.specs.Calls.{refusal, Owed}
 use Rattle.promise.specs.Tell.{Kind, tell}
 use Rattle.promise.specs.Clips.{Flagged, ClipNo, MemberBeyond, clip}

@@ -8,13 +8,12 @@ use Prim.Native.Nat.{ℕ, suc, _≤_, _<_}
 use native.Mathlib.Decide.{ℕ-discrete, decLt}
 use native.Mathlib.Omega.{arith}
 use lib.ListN.{length, getD, drop}
-use Rattle.order.specs.Refusals.{First}
-use Rattle.order.proofs.Refusals.{first-unique, stage as judge}
+use Rattle.promise.specs.Refusals.{First, badVerdict}
+use Rattle.promise.proofs.Refusals.{first-unique, stage as judge}
 use Rattle.promise.specs.declared.Stage.{Stage}
 use Rattle.promise.specs.declared.Stage.the-variants.{Begun}
 use Rattle.promise.specs.declared.Session.{Session}
 use Rattle.promise.specs.declared.Reply.{Reply}
-use Rattle.promise.specs.Refusals.{badVerdict}
 use Rattle.promise.specs.Calls.{noSession, reply, Owed}
 use Rattle.promise.specs.Tell.{Kind, fresh, tell}
 use Rattle.promise.specs.Runs.{Intake, Made, Run, FromFresh}

@@ -12,8 +12,8 @@ use lib.Seq.{take-at}
 use Rattle.order.specs.Facts.{Fact, Facts, factOn, _and_, _with_, _⊆_, Listed, Within, Chain}
 use Rattle.order.specs.Tables.{mark, Sound, Marks, SameMarks, TableOf, markFor, Pair, bytesOf}
 use Rattle.order.specs.Orders.{Impossible}
-use Rattle.order.specs.Refusals.{First}
-use Rattle.order.proofs.Refusals.{first-unique}
+use Rattle.promise.specs.Refusals.{First, badVerdict}
+use Rattle.promise.proofs.Refusals.{first-unique}
 use Rattle.order.proofs.Sets.{and-none, none-and, Settled, Follows as Entailed, entails-subset, follows-one, with-listed, listed-with}
 use Rattle.order.proofs.Tables.{marks-within, sound-table, table-unique, table-of-equals}
 use Rattle.order.proofs.Exactness.{impossible-subset, table-possible}
@@ -22,7 +22,6 @@ use Rattle.promise.specs.declared.Session.{Session}
 use Rattle.promise.specs.declared.Reply.{Reply}
 use Rattle.promise.specs.declared.Counted.{Counted}
 use Rattle.promise.specs.declared.Counted.the-variants.{Count}
-use Rattle.promise.specs.Refusals.{badVerdict}
 use Rattle.promise.specs.Calls.{noSession, started, accepted, Owed, countFor}
 use Rattle.promise.specs.Clips.{truthOf}
 use Rattle.promise.specs.Tell.{Kind, tell}

@@ -9,12 +9,11 @@ use native.Mathlib.Nat.{mul-le-mul, mul-le-mul-right}
 use native.Mathlib.Omega.{arith}
 use lib.ListN.{length}
 use Rattle.order.specs.Tables.{Sound, opens}
-use Rattle.order.specs.Refusals.{Condition, First}
+use Rattle.promise.specs.Refusals.{Condition, First, standing}
 use Rattle.order.proofs.Decide.{stable, either, negated}
-use Rattle.order.proofs.Refusals.{stage}
+use Rattle.promise.proofs.Refusals.{stage}
 use Rattle.order.proofs.Sound.{sound?}
 use Rattle.promise.specs.declared.Session.{Session}
-use Rattle.promise.specs.Refusals.{standing}
 
 -- none of the refusals 1 to 4 is due
 pub record Stands (s : Session) (t : List ℕ) : Type 0 where

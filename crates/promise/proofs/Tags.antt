@@ -11,12 +11,11 @@ use native.Mathlib.Omega.{arith}
 use borrow.Author.Tests.{eqb-false, ne-eqb}
 use lib.Dec.{eqb}
 use lib.ListN.{length, getD}
-use Rattle.order.specs.Refusals.{Condition, First}
+use Rattle.promise.specs.Refusals.{Condition, First, cutShort, unknownTag, misplacedTag, badLength}
 use Rattle.order.proofs.Decide.{stable}
-use Rattle.order.proofs.Refusals.{stage as judge}
+use Rattle.promise.proofs.Refusals.{stage as judge}
 use Rattle.promise.specs.declared.Stage.{Stage}
 use Rattle.promise.specs.declared.Stage.the-variants.{Start, Begun}
-use Rattle.promise.specs.Refusals.{cutShort, unknownTag, misplacedTag, badLength}
 use Rattle.promise.specs.Tell.{Kind}
 use Rattle.promise.specs.Book.{atStart, onceBegun, countRow, factsRow, Lookup, rowOf, lengthOf, sizeOf, rowRefusals, fieldRefusals}
 

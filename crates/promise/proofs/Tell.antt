@@ -11,9 +11,9 @@ use lib.ListN.{length}
 use Rattle.order.specs.Facts.{Fact, Facts, Only, _with_, Below}
 use Rattle.order.specs.Tables.{mark, TableOf, Marks, Contradicts, isOpen, opens, markAgainst}
 use Rattle.order.specs.Orders.{Impossible}
-use Rattle.order.specs.Refusals.{First}
+use Rattle.promise.specs.Refusals.{First, standing}
 use Rattle.order.proofs.Decide.{either}
-use Rattle.order.proofs.Refusals.{stage}
+use Rattle.promise.proofs.Refusals.{stage}
 use Rattle.order.proofs.Tables.{table-unique, table-settled, sound-table, marks-within, mark-for-settled, for-not-against}
 use Rattle.order.proofs.Exactness.{contradicts-exact}
 use Rattle.order.proofs.Bytes.{rest-refl, front-mark, front-rest}
@@ -22,7 +22,6 @@ use Rattle.order.proofs.Taking.{taken-in, taken-table, newMark, length-laid}
 use Rattle.promise.specs.declared.Session.{Session}
 use Rattle.promise.specs.declared.Reply.{Reply}
 use Rattle.promise.specs.Calls.{tested, accepted, Owed, over}
-use Rattle.promise.specs.Refusals.{standing}
 use Rattle.promise.specs.Tell.{Kind, adds, tellRefusals, tell}
 use Rattle.promise.specs.Runs.{StandsFor}
 use Rattle.promise.proofs.Standing.{Stands, standing-passed, stands-first, first-stands, standing-there, below-of}

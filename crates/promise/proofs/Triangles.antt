@@ -8,7 +8,7 @@ use native.Mathlib.Nat.{mul-le-mul}
 use native.Mathlib.Omega.{arith}
 use lib.ListN.{length}
 use Rattle.order.specs.Tables.{Sound, Pair}
-use Rattle.order.specs.Refusals.{First}
+use Rattle.promise.specs.Refusals.{First}
 use Rattle.order.proofs.Pairs.{length-bytes}
 use Rattle.promise.specs.declared.Session.{Session}
 use Rattle.promise.specs.declared.Counted.{Counted}

@@ -4,7 +4,7 @@ use mathlib.Core.Path.{_≡_, refl, subst}
 use native.Mathlib.Decide.{ℕ-discrete, decLt, decLe}
 use Rattle.order.specs.Tables.{mark, opensTo}
 use Rattle.order.proofs.Decide.{both, either, implies, negated, as-well, all-below, some-below, all-pairs, least, least-from}
-use Rattle.order.proofs.Refusals.{stage}
+use Rattle.promise.proofs.Refusals.{stage}
 use Rattle.order.proofs.Sound.{is, sound?, transitive?, pruned?}
 use Rattle.order.proofs.Taking.{yes-after-yes?, no-after-yes?, no-after-no?}
 use Rattle.order.proofs.Pairs.{rowTo, rowsTo}

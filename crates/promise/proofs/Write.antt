@@ -8,14 +8,13 @@ use native.Mathlib.Decide.{ℕ-discrete}
 use native.Mathlib.Omega.{arith}
 use lib.ListN.{length}
 use Rattle.order.specs.Tables.{mark, Pair, bytesOf}
-use Rattle.order.specs.Refusals.{First}
+use Rattle.promise.specs.Refusals.{First, standing}
 use Rattle.order.proofs.Decide.{both, negated}
-use Rattle.order.proofs.Refusals.{stage}
+use Rattle.promise.proofs.Refusals.{stage}
 use Rattle.order.proofs.Pairs.{lists-unique, pairsOf, pairs-listed}
 use Rattle.order.proofs.Sound.{is}
 use Rattle.promise.specs.declared.Session.{Session}
 use Rattle.promise.specs.declared.Counted.{Counted}
-use Rattle.promise.specs.Refusals.{standing}
 use Rattle.promise.specs.Calls.{Owed, TooShort}
 use Rattle.promise.specs.Book.{field, BookOf, writeRefusals, write}
 use Rattle.promise.proofs.Standing.{standing-passed, standing-there}

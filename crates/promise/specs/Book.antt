@@ -7,7 +7,8 @@ use mathlib.Core.List.{List, [], _∷_, _++_}
 use Prim.Native.Nat.{ℕ, zero, suc, _+_, _*_, _-_, _/_, _%_, _<_}
 use lib.Dec.{eqb}
 use lib.ListN.{length, getD, drop}
-use Rattle.order.specs.Refusals.{Condition, First}
+use Rattle.promise.specs.Refusals.{Condition, First, cutShort, unknownTag, misplacedTag, badLength, badVerdict}
+use Rattle.promise.specs.Refusals.{standing, noRoom}
 use Rattle.order.specs.Facts.{Fact, factOn}
 use Rattle.order.specs.Tables.{mark, Pair, Lists, bytesOf}
 use Rattle.promise.specs.declared.Stage.{Stage}
@@ -15,15 +16,13 @@ use Rattle.promise.specs.declared.Stage.the-variants.{Start, Begun}
 use Rattle.promise.specs.declared.Session.{Session}
 use Rattle.promise.specs.declared.Reply.{Reply}
 use Rattle.promise.specs.declared.Counted.{Counted}
-use Rattle.promise.specs.Refusals.{cutShort, unknownTag, misplacedTag, badLength, badVerdict, standing, noRoom}
 use Rattle.promise.specs.Tell.{Kind, fresh, tell}
 use Rattle.promise.specs.Calls.{noSession, reply, Owed, Call, TooShort, writes}
 use Rattle.promise.specs.Clips.{truthOf}
 
--- what the contents of a field are: a class count, or facts of so many bytes each, all of one kind, with the verdict
--- that the bytes from a fact on give
+-- a field's contents: a class count, or facts of one kind, so many bytes each, with the verdict that their bytes give
 pub data Contents : Type 0 where
-  class-count : Contents
+  classes : Contents
   facts : (width : ℕ) (kind : Kind) (verdict : List ℕ → ℕ) → Contents
 
 -- a tag: at which stages of reading it may stand, the lengths it allows, its contents, and the stage behind it
@@ -45,13 +44,7 @@ onceBegun Begun = true
 -- a tag whose contents are the class count, one byte: "first field, once only"
 abbrev pub countRow : ℕ → TagRow
 countRow tag =
-    record {
-      tag = tag;
-      stands = atStart;
-      allows = λ len. eqb len 1;
-      contents = Contents.class-count;
-      behind = Begun;
-    }
+    record { tag = tag; stands = atStart; allows = λ len. eqb len 1; contents = Contents.classes; behind = Begun }
 
 -- a tag whose contents are facts: any number of whole ones, once a class count is accepted
 abbrev pub factsRow : ℕ → ℕ → Kind → (List ℕ → ℕ) → TagRow
@@ -127,7 +120,7 @@ factsFrom (suc count) width kind verdict at bytes =
 
 -- what a field says whose tag byte stands at place at, with these bytes from there on
 abbrev pub saidIn : Contents → ℕ → List ℕ → List Item
-saidIn Contents.class-count at bytes = Item.begin at (getD bytes 3 0) ∷ []
+saidIn Contents.classes at bytes = Item.begin at (getD bytes 3 0) ∷ []
 saidIn (Contents.facts width kind verdict) at bytes =
     factsFrom (lengthOf bytes / width) width kind verdict (at + 3) (drop 3 bytes)
 

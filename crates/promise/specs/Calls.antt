@@ -6,13 +6,12 @@ use mathlib.Core.List.{List, [], _++_}
 use Prim.Native.Nat.{ℕ, _+_, _<_}
 use lib.ListN.{length, drop}
 use Rattle.order.specs.Tables.{SameRest, opens}
-use Rattle.order.specs.Refusals.{Condition, First}
+use Rattle.promise.specs.Refusals.{Condition, First, standing}
 use Rattle.promise.specs.declared.Session.{Session}
 use Rattle.promise.specs.declared.Reply.{Reply}
 use Rattle.promise.specs.declared.Counted.{Counted}
 use Rattle.promise.specs.declared.Counted.the-variants.{Count, Refused}
 use Rattle.promise.specs.declared.CrossedCount.{CrossedCount}
-use Rattle.promise.specs.Refusals.{standing}
 
 -- the session of a fresh table
 abbrev pub started : ℕ → Session
@@ -37,7 +36,7 @@ refusal number s = reply number 0 s
 abbrev pub accepted : Session → Reply
 accepted s = reply 0 0 s
 
--- A call: when it refuses, in order; the refusal number of an outcome, 0 where the call is accepted; all that a refusal with a number
+-- A call: its refusals, in order; the number of an outcome, 0 where it is accepted; all that a refusal with a number
 -- leaves; and what success leaves. An outcome is all that the caller sees afterwards: the answer and every lent byte.
 pub record Call (Outcome : Type 0) : Type 1 where
   pub refusals : List Condition
@@ -51,20 +50,20 @@ pub record Owed {Outcome : Type 0} (call : Call Outcome) (o : Outcome) : Type 0 
   pub refused : call .number o ≢ 0 → o ≡ call .refused (call .number o)
   pub done : call .number o ≡ 0 → call .Done o
 
--- accepted: the reply has the new session, the table the n*n marks that it must have, and every byte from n*n on is as it was
-pub record Changed (new : Session) (n : ℕ) (Must : List ℕ → Type 0) (t : List ℕ) (r : Reply) (t′ : List ℕ) : Type 0 where
+-- accepted: the new session, the n*n marks that there must be, and every byte from n*n on as it was
+pub record Changed (new : Session) (n : ℕ) (Must : List ℕ → Type 0) (t t′ : List ℕ) (r : Reply) : Type 0 where
   pub reply : r ≡ accepted new
   pub marks : Must t′
   pub rest : SameRest n t t′
 
--- A call that may change session and table, and replies. Refused, a session is given back, and no byte of the table t changes.
+-- A call that may change session and table. Refused, a session is given back, and no byte of the table t changes.
 abbrev pub changes : List Condition → Session → Session → ℕ → (List ℕ → Type 0) → List ℕ → Call (Reply × List ℕ)
 changes refusals back new n Must t =
     record {
       refusals = refusals;
       number = λ o. o .0 .number;
       refused = λ k. (refusal k back, t);
-      Done = λ o. Changed new n Must t (o .0) (o .1);
+      Done = λ o. Changed new n Must t (o .1) (o .0);
     }
 
 -- A call whose outcomes cross to C: what C sees is the image of an outcome of the call.

@@ -7,10 +7,9 @@ use Prim.Native.Nat.{ℕ, _≤_, zero, suc}
 use lib.ListN.{length, getD}
 use Rattle.order.specs.Facts.{Fact, _and_, Below}
 use Rattle.order.specs.Tables.{TableOf, Marks, SomeContradicts}
-use Rattle.order.specs.Refusals.{Condition}
+use Rattle.promise.specs.Refusals.{Condition, standing, noSuchClass, contradicted}
 use Rattle.promise.specs.declared.Session.{Session}
 use Rattle.promise.specs.declared.Reply.{Reply}
-use Rattle.promise.specs.Refusals.{standing, noSuchClass, contradicted}
 use Rattle.promise.specs.Calls.{Call, changes}
 
 -- 0 is false, any other number true
@@ -27,7 +26,7 @@ abbrev pub flagsOf : List ℕ → List Bool
 flagsOf [] = []
 flagsOf (byte ∷ bytes) = truthOf byte ∷ flagsOf bytes
 
--- "Then no member of the set lies under a non-member": the noes of a clip, for n classes. A class is a member where its flag is set.
+-- "Then no member of the set lies under a non-member": the noes of a clip, for n classes; a member's flag is set
 pub record ClipNo (n : ℕ) (played : List Bool) (f : Fact) : Type 0 where
   pub below : Below n f
   pub member : Flagged played (f .lower)
@@ -47,8 +46,8 @@ clipRefusals s t played =
     ∷ contradicted (SomeContradicts (s .classes) t (ClipNo (s .classes) played))
     ∷ []
 
--- With session s and table t a clip is handed over that these classes played. Where it is accepted, the marks are those of t and of the
--- noes of the clip. "Clips aren't counted as tests": the session stays what it is.
+-- With session s and table t a clip is handed over that these classes played. Accepted, the marks are those of t and
+-- of the noes of the clip. "Clips aren't counted as tests": the session stays what it is.
 abbrev pub clip : Session → List ℕ → List Bool → Call (Reply × List ℕ)
 clip s t played =
     changes (standing s t (clipRefusals s t played)) s s (s .classes)

@@ -6,11 +6,10 @@ use mathlib.Core.List.{List, [], _∷_}
 use Prim.Native.Nat.{ℕ, _≤_, _<_, suc}
 use lib.ListN.{length, getD}
 use Rattle.order.specs.Tables.{mark, Pair, Lists, bytesOf}
-use Rattle.order.specs.Refusals.{Condition}
+use Rattle.promise.specs.Refusals.{Condition, standing, stillOpen, noRoom, noSuchClass, noLadder}
 use Rattle.promise.specs.declared.Session.{Session}
 use Rattle.promise.specs.declared.Counted.{Counted}
 use Rattle.promise.specs.declared.Counted.the-variants.{Count, Refused}
-use Rattle.promise.specs.Refusals.{standing, stillOpen, noRoom, noSuchClass, noLadder}
 use Rattle.promise.specs.Calls.{Call, countNumber, over, TooShort, writes}
 
 -- a is under b
@@ -85,7 +84,7 @@ pub record NextRung (n : ℕ) (t : List ℕ) (b rung next : ℕ) : Type 0 where
   pub under : Under n t next b
   pub lowest : (c : ℕ) → Direct n t rung c → Under n t c b → next ≤ c
 
--- the ladder to b from a rung on: "what remains is the ladder from that rung on. It ends at the head of b. One byte a rung"
+-- "what remains is the ladder from that rung on. It ends at the head of b. One byte a rung": from a rung on to b
 pub data Ladder (n : ℕ) (t : List ℕ) (b : ℕ) : ℕ → List ℕ → Type 0 where
   end : {rung : ℕ} → HeadOf n t b rung → Ladder n t b rung (rung ∷ [])
   rung :

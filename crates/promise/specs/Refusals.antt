@@ -1,14 +1,22 @@
--- Document 01's refusal numbers, each with its "When, exactly": no other definition has one. And what every call but fresh and reading
--- starts with.
+-- Refusals in order, and document 01's refusal numbers, each with its "When, exactly": no other definition has one.
 -- Assumes nothing.
 use mathlib.Core.Path.{_≡_}
 use mathlib.Core.Logic.{_≢_, _⊎_}
-use mathlib.Core.List.{List, _∷_}
+use mathlib.Core.List.{List, [], _∷_}
 use Prim.Native.Nat.{ℕ, _+_, _*_, _-_, _<_}
 use lib.ListN.{length}
 use Rattle.order.specs.Tables.{mark, Sound, opens}
-use Rattle.order.specs.Refusals.{Condition}
 use Rattle.promise.specs.declared.Session.{Session}
+
+-- a refusal number, and when it is given
+pub record Condition : Type 1 where
+  pub number : ℕ
+  pub when : Type 0
+
+-- the number of the first condition that holds, 0 where none does
+abbrev pub First : List Condition → ℕ → Type 0
+First [] k = k ≡ 0
+First (c ∷ cs) k = (c .when × (k ≡ c .number)) ⊎ ((¬ c .when) × First cs k)
 
 -- "n is 0 or above 128"
 abbrev pub badCount : ℕ → Condition

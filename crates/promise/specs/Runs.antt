@@ -1,5 +1,5 @@
--- Runs: "any run of tells and answers from a fresh table, refused ones among them, table and tally passed on untouched", with clips among
--- them: "Demand 3 reads a clip as its noes, accepted or refused as one".
+-- Runs: "any run of tells and answers from a fresh table, refused ones among them, table and tally passed on
+-- untouched"; "Demand 3 reads a clip as its noes, accepted or refused as one".
 -- Assumes nothing.
 use mathlib.Core.Path.{_≡_}
 use mathlib.Core.Logic.{_⊎_}
@@ -8,10 +8,9 @@ use mathlib.Core.List.{List, [], _∷_}
 use Prim.Native.Nat.{ℕ, zero, suc, _+_}
 use Rattle.order.specs.Facts.{Fact, Facts, Only, Below, Within}
 use Rattle.order.specs.Tables.{mark, TableOf}
-use Rattle.order.specs.Refusals.{First}
+use Rattle.promise.specs.Refusals.{First, standing}
 use Rattle.promise.specs.declared.Session.{Session}
 use Rattle.promise.specs.declared.Reply.{Reply}
-use Rattle.promise.specs.Refusals.{standing}
 use Rattle.promise.specs.Calls.{Call, Owed}
 use Rattle.promise.specs.Tell.{Kind, adds, fresh, tell}
 use Rattle.promise.specs.Clips.{ClipNo, MemberBeyond, clip}
@@ -65,8 +64,9 @@ pub record Made : Type 0 where
 pub data Run : Session → List ℕ → List Made → Session → List ℕ → Type 0 where
   stop : {s : Session} {t : List ℕ} → Run s t [] s t
   call :
-      {m : Made} {later : List Made} {s s′ : Session} {t t₁ t′ : List ℕ} {r : Reply} → Owed (taking (m .call) s t) (r, t₁)
-      → r .number ≡ m .number → Run (r .session) t₁ later s′ t′ → Run s t (m ∷ later) s′ t′
+      {m : Made} {later : List Made} {s s′ : Session} {t t₁ t′ : List ℕ} {r : Reply}
+      → Owed (taking (m .call) s t) (r, t₁) → r .number ≡ m .number → Run (r .session) t₁ later s′ t′
+      → Run s t (m ∷ later) s′ t′
 
 -- fresh is accepted for n classes on the table t, and the calls of a list follow
 pub record FromFresh (n : ℕ) (t : List ℕ) (made : List Made) (s′ : Session) (t′ : List ℕ) : Type 0 where

@@ -9,12 +9,11 @@ use Prim.Native.Nat.{ℕ, zero, suc, _+_, _*_, _/_, _%_, _≤_, _<_}
 use native.Mathlib.Nat.{suc-mul, div-add-mod'}
 use native.Mathlib.Omega.{arith}
 use lib.ListN.{length, getD, drop}
-use Rattle.order.specs.Refusals.{First}
+use Rattle.promise.specs.Refusals.{First, standing}
 use Rattle.promise.specs.declared.Stage.{Stage}
 use Rattle.promise.specs.declared.Stage.the-variants.{Start, Begun}
 use Rattle.promise.specs.declared.Session.{Session}
 use Rattle.promise.specs.declared.Reply.{Reply}
-use Rattle.promise.specs.Refusals.{standing}
 use Rattle.promise.specs.Calls.{noSession, reply, accepted}
 use Rattle.session.specs.Facts.{kindOf}
 use Rattle.promise.specs.Book.{onceBegun, rowOf, lengthOf, sizeOf, fieldRefusals, Item, factsFrom, stageBehind, itemsOf, Follows, BookRead}

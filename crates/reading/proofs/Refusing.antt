@@ -9,11 +9,10 @@ use native.Mathlib.Nat.{add-zero}
 use native.Mathlib.Omega.{arith}
 use lib.ListN.{length, getD, drop, length-drop}
 use lib.Seq.{getD-drop, drop-drop}
-use Rattle.order.specs.Refusals.{First}
+use Rattle.promise.specs.Refusals.{First, cutShort, misplacedTag, badLength}
 use Rattle.promise.specs.declared.Stage.{Stage}
 use Rattle.promise.specs.declared.Stage.the-variants.{Start, Begun}
 use Rattle.promise.specs.declared.Session.{Session}
-use Rattle.promise.specs.Refusals.{cutShort, misplacedTag, badLength}
 use Rattle.promise.specs.Book.{Contents, Lookup, rowOf, lengthOf, rowRefusals, fieldRefusals, Item}
 use Rattle.promise.proofs.Tags.{Right, field-right, items-short}
 use Rattle.reading.specs.declared.tags.Row.{Row}
@@ -77,7 +76,7 @@ module _ (stage : Stage) {book : List ℕ} {at : ℕ} {row : Row} {size : ℕ} (
 
 -- what a row allows, by its contents
 abbrev RightContents : Contents → Stage → ℕ → Type 0
-RightContents Contents.class-count stage len = (stage ≡ Start) × (len ≡ 1)
+RightContents Contents.classes stage len = (stage ≡ Start) × (len ≡ 1)
 RightContents (Contents.facts width kind verdict) stage len = (stage ≡ Begun) × (len % width ≡ 0)
 
 abbrev RightLookup : Lookup → Stage → ℕ → Type 0

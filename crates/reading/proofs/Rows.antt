@@ -48,7 +48,7 @@ plain-row tag y n a = go (row-is tag)
 
 -- how many bytes the facts of a row have
 abbrev WideContents : Contents → Type 0
-WideContents Contents.class-count = Unit {0}
+WideContents Contents.classes = Unit {0}
 WideContents (Contents.facts width kind verdict) = width ≡ widthOf kind
 
 abbrev WideLookup : Lookup → Type 0

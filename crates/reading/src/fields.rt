@@ -10,7 +10,7 @@ use promise::UNKNOWN_TAG;
 ghost use mathlib.Core.Path.{_≡_};
 ghost use Prim.Native.Nat.{_<_};
 ghost use lib.ListN.{length, getD, drop};
-ghost use Rattle.order.specs.Refusals.{First};
+ghost use Rattle.promise.specs.Refusals.{First};
 ghost use Rattle.promise.specs.Book.{lengthOf, fieldRefusals};
 ghost use Rattle.reading.specs.Parts.{HeadRead};
 

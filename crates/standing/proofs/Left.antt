@@ -1,7 +1,7 @@
 -- What is still owed is owed by the call itself, where the refusals before are not due.
 -- Assumes nothing.
 use mathlib.Core.List.{List}
-use Rattle.order.specs.Refusals.{Condition, First}
+use Rattle.promise.specs.Refusals.{Condition, First}
 use Rattle.promise.specs.Calls.{Call, Owed}
 use Rattle.standing.specs.Left.{left}
 

@@ -1,7 +1,7 @@
 -- What a call still owes where only some of its refusals may be due.
 -- Assumes nothing.
 use mathlib.Core.List.{List}
-use Rattle.order.specs.Refusals.{Condition}
+use Rattle.promise.specs.Refusals.{Condition}
 use Rattle.promise.specs.Calls.{Call}
 
 -- the same call with these refusals

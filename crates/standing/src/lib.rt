@@ -12,9 +12,8 @@ use promise::Session;
 use sound::is_sound;
 ghost use mathlib.Core.Path.{_≡_};
 ghost use mathlib.Core.List.{[]};
-ghost use Rattle.order.specs.Refusals.{First};
+ghost use Rattle.promise.specs.Refusals.{First, standing};
 ghost use Rattle.promise.specs.declared.Counted.the-variants.{Refused};
-ghost use Rattle.promise.specs.Refusals.{standing};
 
 // The first of the refusals 1 to 4 that is due, 0 if none is.
 pub fn first_refusal(session: Session, table: &[u8]) -> u8

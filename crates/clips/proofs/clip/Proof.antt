@@ -3,8 +3,7 @@
 use mathlib.Core.Path.{refl, subst}
 use mathlib.Core.List.{[]}
 use Prim.Native.Nat.{ℕ}
-use Rattle.order.specs.Refusals.{First}
-use Rattle.promise.specs.Refusals.{standing}
+use Rattle.promise.specs.Refusals.{First, standing}
 use Rattle.promise.specs.Clips.{clipRefusals, clip}
 use Rattle.promise.proofs.Standing.{standing-refused}
 use Rattle.promise.proofs.Calls.{owed-refused}

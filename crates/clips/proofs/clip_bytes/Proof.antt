@@ -6,8 +6,7 @@ use mathlib.Core.List.{[]}
 use Prim.Native.Nat.{ℕ}
 use native.Mathlib.Omega.{arith}
 use borrow.Author.Needs.{needs}
-use Rattle.order.specs.Refusals.{First}
-use Rattle.promise.specs.Refusals.{standing}
+use Rattle.promise.specs.Refusals.{First, standing}
 use Rattle.promise.specs.Clips.{bytesRefusals, clipBytes}
 use Rattle.promise.proofs.Standing.{Stands, stood, standing-refused}
 use Rattle.promise.proofs.Calls.{owed-refused}

@@ -1,7 +1,7 @@
 -- `reading::read_field` meets its contract.
 -- Assumes nothing.
 use mathlib.Core.Path.{subst}
-use Rattle.order.specs.Refusals.{First}
+use Rattle.promise.specs.Refusals.{First}
 use Rattle.promise.specs.Book.{fieldRefusals}
 use lib.ListN.{drop}
 use Rattle.reading.specs.Parts.{saidAt, HeadRead}

@@ -3,11 +3,10 @@
 use mathlib.Core.Path.{_≡_, refl, subst}
 use mathlib.Core.List.{List, []}
 use Prim.Native.Nat.{ℕ}
-use Rattle.order.specs.Refusals.{First}
+use Rattle.promise.specs.Refusals.{First, standing}
 use Rattle.promise.specs.declared.Session.{Session}
 use Rattle.promise.specs.declared.Question.{Question}
 use Rattle.promise.specs.declared.Question.the-variants.{Ask, Done, Refused}
-use Rattle.promise.specs.Refusals.{standing}
 use Rattle.promise.specs.Calls.{Owed}
 use Rattle.promise.specs.Next.{Names, next}
 use Rattle.promise.proofs.Standing.{stood}

@@ -3,8 +3,7 @@
 use mathlib.Core.Path.{refl, subst}
 use mathlib.Core.List.{[]}
 use Prim.Native.Nat.{ℕ}
-use Rattle.order.specs.Refusals.{First}
-use Rattle.promise.specs.Refusals.{standing}
+use Rattle.promise.specs.Refusals.{First, standing}
 use Rattle.promise.specs.Calls.{openPairs}
 use Rattle.promise.specs.declared.Counted.the-variants.{Count}
 use Rattle.promise.proofs.Standing.{stood}

@@ -4,8 +4,7 @@ use mathlib.Core.Path.{refl, subst}
 use mathlib.Core.List.{[]}
 use Prim.Native.Nat.{ℕ}
 use Rattle.order.specs.Facts.{factOn}
-use Rattle.order.specs.Refusals.{First}
-use Rattle.promise.specs.Refusals.{standing}
+use Rattle.promise.specs.Refusals.{First, standing}
 use Rattle.session.specs.Facts.{kindOf}
 use Rattle.promise.specs.Tell.{tellRefusals, tell}
 use Rattle.promise.proofs.Standing.{standing-refused}
