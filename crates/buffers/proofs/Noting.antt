@@ -7,7 +7,8 @@ use native.Mathlib.Nat.{mul-le-mul}
 use native.Mathlib.Omega.{arith}
 use lib.ListN.{length, length-append}
 use Rattle.order.specs.Tables.{Pair, Lists, bytesOf}
-use Rattle.order.proofs.Pairs.{pairsOf, pairsBefore, before-none, before-hit, before-miss, before-row, before-all, pairs-listed, bytes-append, length-bytes}
+use Rattle.order.proofs.Pairs.{pairsOf, pairsBefore, before-none, before-hit, before-miss, before-row, before-all}
+use Rattle.order.proofs.Pairs.{pairs-listed, bytes-append, length-bytes}
 use Rattle.order.proofs.Counting.{before-length}
 use Rattle.buffers.specs.Noted.{PairPut, Noted}
 use Rattle.buffers.proofs.Placing.{placed-behind}

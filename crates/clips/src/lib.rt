@@ -1,5 +1,5 @@
-// The call clip: the noes of a set of classes that played a trial clip are taken in as one. It has no requires: any class count, tally, table
-// and flags get an answer or a refusal.
+// The call clip: the noes of a set of classes that played a trial clip are taken in as one. It has no requires: any
+// class count, tally, table and flags get an answer or a refusal.
 mod bytes;
 mod members;
 
@@ -21,9 +21,9 @@ ghost use Rattle.promise.specs.Refusals.{First, standing};
 ghost use Rattle.promise.specs.Calls.{Owed};
 ghost use Rattle.promise.specs.Clips.{clip, clipBytes};
 
-// A clip is taken in by a session and a table for which none of the refusals 1 to 4 is due. Whether one of its noes contradicts is known
-// before the first byte changes. Where none does, members are under members only: the noes settle the pairs of a member and a non-member
-// and no others, and one pass marks them.
+// A clip is taken in by a session and a table for which none of the refusals 1 to 4 is due. Whether one of its noes
+// contradicts is known before the first byte changes. Where none does, members are under members only: the noes
+// settle the pairs of a member and a non-member and no others, and one pass marks them.
 fn take_clip(session: Session, table: &mut [u8], played: &[bool; MOST_CLASSES]) -> Reply
     requires { ⌜ First (standing session (now table) []) 0 ⌝ }
     ensures { λ r. ⌜ Owed (clip session (now (table .entry)) (now (played .entry))) (r, now (table .exit)) ⌝ }
@@ -53,7 +53,8 @@ pub fn clip(session: Session, table: &mut [u8], trial: Clip) -> Reply
     take_clip(session, &mut *table, &trial.played)
 }
 
-// The same with a byte for each flag, from class 0 on: set where it is not 0. Every class must have one, and at most 128 may be there.
+// The same with a byte for each flag, from class 0 on: set where it is not 0. Every class must have one, and at most
+// 128 may be there.
 pub fn clip_bytes(session: Session, table: &mut [u8], played: &[u8]) -> Reply
     ensures { λ r. ⌜ Owed (clipBytes session (now (table .entry)) (now (played .entry))) (r, now (table .exit)) ⌝ }
 {

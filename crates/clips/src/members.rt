@@ -1,4 +1,5 @@
-// Members and non-members: what is looked at before a clip is taken in. The loops over flags have no branches, so that they become vector code.
+// Members and non-members: what is looked at before a clip is taken in. The loops over flags have no branches, so
+// that they become vector code.
 use marks::YES;
 use marks::index;
 use promise::MOST_CLASSES;

@@ -78,7 +78,8 @@ pub extern "C" fn dawnhangra_tell(
     upper: usize,
     holds: bool,
 ) -> Reply
-    ensures { λ r. ⌜ Owed (tell Kind.told session (now (table .entry)) (factOn lower upper holds)) (r, now (table .exit)) ⌝ }
+    ensures { λ r. ⌜ Owed (tell Kind.told session (now (table .entry)) (factOn lower upper holds))
+        (r, now (table .exit)) ⌝ }
 {
     session::tell(session, table, lower, upper, holds)
 }
@@ -92,7 +93,8 @@ pub extern "C" fn dawnhangra_answer(
     upper: usize,
     holds: bool,
 ) -> Reply
-    ensures { λ r. ⌜ Owed (tell Kind.answered session (now (table .entry)) (factOn lower upper holds)) (r, now (table .exit)) ⌝ }
+    ensures { λ r. ⌜ Owed (tell Kind.answered session (now (table .entry)) (factOn lower upper holds))
+        (r, now (table .exit)) ⌝ }
 {
     session::answer(session, table, lower, upper, holds)
 }
@@ -129,7 +131,8 @@ pub extern "C" fn dawnhangra_hierarchy(
     heads: &mut [u8],
     steps: &mut [u8],
 ) -> CrossedCount
-    ensures { λ r. ⌜ Owed (writesForC (hierarchy session (now (table .entry)) (now (heads .entry)) (now (steps .entry))))
+    ensures { λ r. ⌜ Owed
+        (writesForC (hierarchy session (now (table .entry)) (now (heads .entry)) (now (steps .entry))))
         (r, (now (heads .exit), now (steps .exit))) ⌝ }
 {
     crossed_count(hierarchy::hierarchy(session, table, heads, steps))

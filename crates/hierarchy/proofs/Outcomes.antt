@@ -14,7 +14,8 @@ use Rattle.promise.specs.declared.Session.{Session}
 use Rattle.promise.specs.declared.Counted.{Counted}
 use Rattle.promise.specs.declared.Counted.the-variants.{Count, Refused}
 use Rattle.promise.specs.Calls.{Owed, over, TooShort}
-use Rattle.promise.specs.Hierarchy.{Under, HeadOf, HeadsOf, StepBytes, hierarchyRefusals, hierarchy, LadderOf, ladderRefusals, ladder}
+use Rattle.promise.specs.Hierarchy.{Under, HeadOf, HeadsOf, StepBytes, hierarchyRefusals, hierarchy, LadderOf}
+use Rattle.promise.specs.Hierarchy.{ladderRefusals, ladder}
 use Rattle.promise.proofs.Standing.{Stands, standing-refused, first-stands, square}
 use Rattle.promise.proofs.Calls.{owed-refused, owed-done}
 use Rattle.promise.proofs.Hierarchy.{head-head, heads-there, step-bytes-unique}

@@ -13,7 +13,8 @@ use Rattle.steps.specs.HeadsFound.{SoundTable}
 -- hierarchy, where none of the refusals 1 to 4 and 7 is due
 abbrev pub hierarchyLeft : ℕ → List ℕ → List ℕ → List ℕ → Call (Counted × (List ℕ × List ℕ))
 hierarchyLeft n t heads steps =
-    left (noRoom (TooShort (HeadsOf n t) heads ⊎ TooShort (StepBytes n t) steps) ∷ []) (hierarchy (started n) t heads steps)
+    left (noRoom (TooShort (HeadsOf n t) heads ⊎ TooShort (StepBytes n t) steps) ∷ [])
+    (hierarchy (started n) t heads steps)
 
 -- a sound table with room for its marks, and two of its classes, a under b
 pub record HasLadder (n : ℕ) (t : List ℕ) (a b : ℕ) : Type 0 where

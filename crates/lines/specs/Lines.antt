@@ -76,8 +76,8 @@ stepLines (p ∷ steps) = line capital-E (p .0) (p .1) ++ stepLines steps
 abbrev pub refusalLine : ℕ → ℕ → List ℕ
 refusalLine number place = line capital-R number place
 
--- what is written of a table of n classes and its tally: "If o is above 0, `Q a b`, the next question. Else one `C i h` per class (class,
--- head), then one `E a b` per direct step."
+-- what is written of a table of n classes and its tally: "If o is above 0, `Q a b`, the next question. Else one `C i
+-- h` per class (class, head), then one `E a b` per direct step."
 pub data Shows (n tests : ℕ) (t : List ℕ) : List ℕ → Type 0 where
   asks :
       {a b : ℕ} → FirstOpen n t a b → Shows n tests t (countsLine n tests (opens n t) ++ questionLine a b)

@@ -38,7 +38,8 @@ pub record SettledPut (n : ℕ) (t : List ℕ) (at : ℕ) (text : List ℕ) (beh
   pub steps-of : StepsOf n t steps
   pub put : Put (classLines 0 heads ++ stepLines steps) at text behind text′
 
--- refusals 1 to 4 are not due, no pair is open, and there is room: "for 128 heads and 8,192 bytes of steps", and for a line of each
+-- refusals 1 to 4 are not due, no pair is open, and there is room: "for 128 heads and 8,192 bytes of steps", and for
+-- a line of each
 pub record Settled (s : Session) (t heads steps text : List ℕ) (at : ℕ) : Type 0 where
   pub stands : First (standing s t []) 0
   pub none-open : opens (s .classes) t ≡ 0

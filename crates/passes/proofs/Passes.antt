@@ -12,7 +12,8 @@ use Rattle.order.proofs.Bytes.{rest-trans}
 use Rattle.order.proofs.Sets.{within-with}
 use Rattle.order.proofs.Tables.{sound-table, marks-within, mark-against-settled}
 use Rattle.order.proofs.Exactness.{consistent, contradicts-exact}
-use Rattle.order.proofs.Steps.{YesAfterYes, NoAfterYes, YesAfterNo, NoAfterNo, yes-after-yes-form, no-after-yes-form, yes-after-no-form, no-after-no-form, yes-step, no-step}
+use Rattle.order.proofs.Steps.{YesAfterYes, NoAfterYes, YesAfterNo, NoAfterNo, yes-after-yes-form, no-after-yes-form}
+use Rattle.order.proofs.Steps.{yes-after-no-form, no-after-no-form, yes-step, no-step}
 use Rattle.promise.specs.Clips.{Flagged}
 use Rattle.passes.specs.Spread.{FlagsOf, Becomes, Spread}
 use Rattle.passes.specs.Taken.{OpenPair, FactTaken}

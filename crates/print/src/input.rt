@@ -41,7 +41,8 @@ pub fn fill(input: &mut [u8]) -> Filled
     }
 }
 
-// What comes behind a full buffer: one byte more, if there is one. Nothing comes behind a buffer that the input did not fill.
+// What comes behind a full buffer: one byte more, if there is one. Nothing comes behind a buffer that the input did
+// not fill.
 pub fn behind(filled: Filled, room: usize) -> Filled {
     if filled.count < room {
         return Filled {

@@ -1,5 +1,5 @@
--- Calls on classes below n are accepted whole exactly when some order agrees with all that they say; so the order in which they come, and
--- which calls say it, make no difference.
+-- Calls on classes below n are accepted whole exactly when some order agrees with all that they say; so the order in
+-- which they come, and which calls say it, make no difference.
 -- Assumes nothing.
 use mathlib.Core.Path.{_≡_, sym, _∙_, subst}
 use mathlib.Core.Logic.{_↔_, _⊎_, inl, inr}
@@ -15,7 +15,8 @@ use Rattle.order.proofs.Tables.{table-unique, table-of-equals}
 use Rattle.order.proofs.Exactness.{impossible-subset, table-possible}
 use Rattle.order.proofs.Bytes.{same-list, rest-sym, rest-trans}
 use Rattle.promise.specs.declared.Session.{Session}
-use Rattle.promise.specs.Runs.{StandsFor, Intake, SaidBy, Said, Fits, AllFit, Made, Run, callsOf, Accepted, AllAccepted}
+use Rattle.promise.specs.Runs.{StandsFor, Intake, SaidBy, Said, Fits, AllFit, Made, Run, callsOf, Accepted}
+use Rattle.promise.specs.Runs.{AllAccepted}
 use Rattle.promise.proofs.Taking.{leaves-stands}
 use Rattle.promise.proofs.Runs.{intake-leaves, intake-contradicted, run-stands, run-tests, run-rest}
 

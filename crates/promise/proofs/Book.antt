@@ -13,7 +13,8 @@ use Rattle.promise.specs.Refusals.{First}
 use Rattle.promise.specs.declared.Stage.{Stage}
 use Rattle.promise.specs.declared.Stage.the-variants.{Start, Begun}
 use Rattle.promise.specs.Tell.{Kind}
-use Rattle.promise.specs.Book.{atStart, Lookup, rowOf, lengthOf, sizeOf, fieldRefusals, Item, factsFrom, fieldSays, stageBehind, itemsFrom, itemsOf}
+use Rattle.promise.specs.Book.{atStart, Lookup, rowOf, lengthOf, sizeOf, fieldRefusals, Item, factsFrom}
+use Rattle.promise.specs.Book.{fieldSays, stageBehind, itemsFrom, itemsOf}
 use Rattle.promise.proofs.Tags.{FactsTag, RowIs, row-is, Right, field-right, facts-width, facts-fit}
 use Rattle.promise.proofs.Items.{facts-step}
 

@@ -25,7 +25,8 @@ use Rattle.promise.specs.declared.Stage.the-variants.{Start, Begun}
 use Rattle.promise.specs.Tell.{Kind}
 use Rattle.promise.specs.Clips.{truthOf}
 use Rattle.promise.specs.Runs.{Accepted}
-use Rattle.promise.specs.Book.{TagRow, countRow, factsRow, Lookup, rowOf, lengthOf, sizeOf, fieldRefusals, Item, factsFrom, fieldSays, itemsFrom, itemsOf, factOf, field, PairsMarked, BookOf}
+use Rattle.promise.specs.Book.{TagRow, countRow, factsRow, Lookup, rowOf, lengthOf, sizeOf, fieldRefusals, Item}
+use Rattle.promise.specs.Book.{factsFrom, fieldSays, itemsFrom, itemsOf, factOf, field, PairsMarked, BookOf}
 use Rattle.promise.proofs.Read.{callsSaid}
 use Rattle.promise.proofs.Write.{book-unique}
 

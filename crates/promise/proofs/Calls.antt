@@ -1,5 +1,5 @@
--- The one form of a call: two outcomes for one input are equal, there is one, and a refusal leaves what it must, given that what success
--- leaves is fixed and there.
+-- The one form of a call: two outcomes for one input are equal, there is one, and a refusal leaves what it must,
+-- given that what success leaves is fixed and there.
 -- Assumes nothing.
 use mathlib.Core.Path.{_≡_, refl, sym, _∙_, ap, ap₂}
 use mathlib.Core.Logic.{_≢_}

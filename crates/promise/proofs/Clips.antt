@@ -15,7 +15,8 @@ use Rattle.promise.specs.Refusals.{First, standing}
 use Rattle.order.proofs.Decide.{stable, both, negated, either, as-well, some-below}
 use Rattle.promise.proofs.Refusals.{stage}
 use Rattle.order.proofs.Sets.{yes-not-no, entails-subset, within-and, OnlyNoes, Spreads, yes-after-noes, no-after-noes}
-use Rattle.order.proofs.Tables.{settles-map, table-unique, table-of-equals, sound-table, marks-within, facts-in-marks, for-not-against}
+use Rattle.order.proofs.Tables.{settles-map, table-unique, table-of-equals, sound-table, marks-within, facts-in-marks}
+use Rattle.order.proofs.Tables.{for-not-against}
 use Rattle.order.proofs.Steps.{or-cong}
 use Rattle.order.proofs.Exactness.{noes-exact}
 use Rattle.order.proofs.Bytes.{rest-refl, front-mark, front-rest}
@@ -25,12 +26,15 @@ use Rattle.order.proofs.Taking.{choose, chosen, laid, mark-laid, length-laid}
 use Rattle.promise.specs.declared.Session.{Session}
 use Rattle.promise.specs.declared.Reply.{Reply}
 use Rattle.promise.specs.Calls.{refusal, accepted, Owed, over}
-use Rattle.promise.specs.Clips.{Flagged, flagsOf, ClipNo, MemberBeyond, clipRefusals, clip, FlagsFit, bytesRefusals, clipBytes}
+use Rattle.promise.specs.Clips.{Flagged, flagsOf, ClipNo, MemberBeyond, clipRefusals, clip, FlagsFit}
+use Rattle.promise.specs.Clips.{bytesRefusals, clipBytes}
 use Rattle.promise.specs.Runs.{StandsFor}
 use Rattle.promise.proofs.Flags.{flagged?, flag-there}
-use Rattle.promise.proofs.Standing.{Stands, standing-passed, stood, stands-first, standing-refused, standing-map, first-stands, standing-there}
+use Rattle.promise.proofs.Standing.{Stands, standing-passed, stood, stands-first, standing-refused}
+use Rattle.promise.proofs.Standing.{standing-map, first-stands, standing-there}
 use Rattle.promise.proofs.Taking.{Leaves, stands-of, leaves-keeps}
-use Rattle.promise.proofs.Calls.{owed-refused, owed-done, changes-unique, changes-kept, changes-session, changes-there}
+use Rattle.promise.proofs.Calls.{owed-refused, owed-done, changes-unique, changes-kept, changes-session}
+use Rattle.promise.proofs.Calls.{changes-there}
 
 -- The two refusals of the call itself are decided.
 
@@ -79,8 +83,8 @@ module _ (n : ℕ) (played : List Bool) where
         some-below (Contrary a) (λ b.
         both (both (flagged? played a) (negated (flagged? played b))) (is n t 1 a b)) n) n)
 
--- A clip that does not contradict marks the pairs of a member and a non-member, and settles no other: what a member is under is a
--- member, so that its noes spread no further.
+-- A clip that does not contradict marks the pairs of a member and a non-member, and settles no other: what a member
+-- is under is a member, so that its noes spread no further.
 module _ {n : ℕ} {t : List ℕ} {played : List Bool} (sound : Sound n t) (fine : ¬ SomeContradicts n t (ClipNo n played)) where
   clip-spreads :
       (x y : ℕ) → x < n → y < n → Spreads (Marks n t) (ClipNo n played) x y ↔ (Flagged played x × (¬ Flagged played y))
@@ -222,8 +226,8 @@ clip-opens {s} {t} {r = r} {t′ = t′} h = go (ℕ-discrete (r .number) 0)
     go (yes e) = let l = rw (changes-session h e) at (clip-leaves h e .count) in omega arith
     go (no e) = rw (changes-kept h e .1) (omega arith)
 
--- "it is refused as contradictory exactly when no order agrees with all of them and the facts accepted before", and it is refused for no
--- other reason
+-- "it is refused as contradictory exactly when no order agrees with all of them and the facts accepted before", and
+-- it is refused for no other reason
 pub clip-refused :
     {S : Facts} {s : Session} {t : List ℕ} {played : List Bool} {r : Reply} {t′ : List ℕ} → StandsFor S s t
     → ¬ MemberBeyond (s .classes) played → Owed (clip s t played) (r, t′)

@@ -1,5 +1,5 @@
--- Calls that count: two outcomes for one input are equal, there is one, and a buffer keeps its length, given that what is to be written
--- is fixed and there.
+-- Calls that count: two outcomes for one input are equal, there is one, and a buffer keeps its length, given that
+-- what is to be written is fixed and there.
 -- Assumes nothing.
 use mathlib.Core.Path.{_≡_, refl, sym, _∙_, ap, ap₂, subst}
 use mathlib.Core.List.{List, [], _∷_, _++_, append-assoc}

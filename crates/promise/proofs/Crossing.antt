@@ -1,4 +1,5 @@
--- The calls as C sees them: two outcomes for one input are equal, and there is one, the image of what the call itself owes.
+-- The calls as C sees them: two outcomes for one input are equal, and there is one, the image of what the call itself
+-- owes.
 -- Assumes nothing.
 use mathlib.Core.Path.{_≡_, refl, _∙_}
 use mathlib.Core.List.{List}

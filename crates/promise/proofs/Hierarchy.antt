@@ -1,5 +1,5 @@
--- Heads and direct steps: one head for each class, one list of steps, both there on a sound table; one outcome of the call for each
--- input.
+-- Heads and direct steps: one head for each class, one list of steps, both there on a sound table; one outcome of the
+-- call for each input.
 -- Assumes nothing.
 use mathlib.Core.Path.{_≡_, refl, sym, _∙_, ap, ap₂}
 use mathlib.Core.Logic.{_↔_, _≢_, _⊎_, inl, inr}
@@ -19,7 +19,8 @@ use Rattle.promise.specs.declared.Session.{Session}
 use Rattle.promise.specs.declared.Counted.{Counted}
 use Rattle.promise.specs.declared.Counted.the-variants.{Count}
 use Rattle.promise.specs.Calls.{Owed, countNumber, over, TooShort}
-use Rattle.promise.specs.Hierarchy.{Under, Equal, HeadOf, Head, Third, Direct, HeadsOf, StepsOf, StepBytes, hierarchyRefusals, hierarchy}
+use Rattle.promise.specs.Hierarchy.{Under, Equal, HeadOf, Head, Third, Direct, HeadsOf, StepsOf, StepBytes}
+use Rattle.promise.specs.Hierarchy.{hierarchyRefusals, hierarchy}
 use Rattle.promise.proofs.Standing.{Stands, standing-passed, stands-first, standing-there}
 use Rattle.promise.proofs.Calls.{Fixed, owed-unique, owed-there}
 use Rattle.promise.proofs.Counts.{over-length, too-short?}

@@ -1,5 +1,5 @@
--- Ladders: there is one, and one only, wherever a is under b; with each rung the number of heads strictly above it and under the goal
--- falls; one outcome of the call for each input.
+-- Ladders: there is one, and one only, wherever a is under b; with each rung the number of heads strictly above it
+-- and under the goal falls; one outcome of the call for each input.
 -- Assumes nothing.
 use mathlib.Core.Path.{_≡_, refl, sym, _∙_, ap}
 use mathlib.Core.Logic.{_≢_, _⊎_, inl, inr}
@@ -16,11 +16,13 @@ use Rattle.promise.proofs.Refusals.{stage}
 use Rattle.promise.specs.declared.Session.{Session}
 use Rattle.promise.specs.declared.Counted.{Counted}
 use Rattle.promise.specs.Calls.{Owed, countNumber, TooShort}
-use Rattle.promise.specs.Hierarchy.{Under, HeadOf, Head, Third, Direct, NextRung, Ladder, LadderOf, Above, Number, ladderRefusals, ladder}
+use Rattle.promise.specs.Hierarchy.{Under, HeadOf, Head, Third, Direct, NextRung, Ladder, LadderOf, Above}
+use Rattle.promise.specs.Hierarchy.{Number, ladderRefusals, ladder}
 use Rattle.promise.proofs.Standing.{Stands, standing-own, standing-passed, standing-there, below-of}
 use Rattle.promise.proofs.Calls.{Fixed, owed-unique}
 use Rattle.promise.proofs.Counts.{too-short?, writes-fixed, writes-there, writes-length}
-use Rattle.promise.proofs.Hierarchy.{head-unique, head-head, head-there, heads-equal, head?, under?, direct?, third?}
+use Rattle.promise.proofs.Hierarchy.{head-unique, head-head, head-there, heads-equal, head?, under?, direct?}
+use Rattle.promise.proofs.Hierarchy.{third?}
 
 -- how many numbers below k have a property: there is such a number, and it is less for a narrower property
 

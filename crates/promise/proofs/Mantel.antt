@@ -1,7 +1,7 @@
--- Mantel's theorem: a graph on the numbers below n that has no triangle has at most n * n / 4 edges.
--- Near a number are those that an edge joins to it; the others are far. The ends a and b of an edge have no neighbour
--- in common, so each number is far from one of them: n ≤ far a + far b. Sum that over the edges. Each number u is an end
--- of near u edges, so n * edges ≤ the sum of far u * near u. As far u + near u is n, no far u * near u is above n * n / 4.
+-- Mantel's theorem: a graph on the numbers below n that has no triangle has at most n * n / 4 edges. Near a number
+-- are those that an edge joins to it; the others are far. The ends a and b of an edge have no neighbour in common, so
+-- each number is far from one of them: n ≤ far a + far b. Sum that over the edges. Each number u is an end of near u
+-- edges, so n * edges ≤ the sum of far u * near u. As far u + near u is n, no far u * near u is above n * n / 4.
 -- Assumes nothing.
 use mathlib.Core.Logic.{_⊎_, inl, inr}
 use mathlib.Core.List.{List}

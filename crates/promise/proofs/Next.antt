@@ -140,8 +140,8 @@ rounds-tests {s = s} {t = t} (Rounds.round {a = a} {b = b} q h later) =
     let one : adds Kind.answered 0 (mark (s .classes) t a b) ≡ 1 = ap (adds Kind.answered 0) (q .done refl .is-open) in
     omega (arith, rounds-tests later, tell-opens Kind.answered h 0 (asked-accepted q h) .1)
 
--- "So asking and answering the pair asked ends after at most as many answers as there were open pairs": after k rounds next says done,
--- or k is still below the number of pairs open at the start
+-- "So asking and answering the pair asked ends after at most as many answers as there were open pairs": after k
+-- rounds next says done, or k is still below the number of pairs open at the start
 pub rounds-end :
     {k : ℕ} {s s′ : Session} {t t′ : List ℕ} {q : Question} → First (standing s t []) 0 → Rounds k s t s′ t′
     → Owed (next s′ t′) q → (q ≡ Done) ⊎ (k < opens (s .classes) t)

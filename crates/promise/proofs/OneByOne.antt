@@ -1,9 +1,11 @@
--- A clip and its noes told one by one, in any order and each as often as you like: the same outcome, or one of them is refused.
+-- A clip and its noes told one by one, in any order and each as often as you like: the same outcome, or one of them
+-- is refused.
 -- Assumes nothing.
 use mathlib.Core.Path.{_≡_, refl, sym, _∙_, ap, subst}
 use mathlib.Core.Logic.{_↔_, _≢_, _⊎_, inl, inr}
 use mathlib.Core.Bool.{Bool, false}
-use mathlib.Core.List.{List, [], _∷_, List·Memᴰ, List·Memᴰ·head, List·Memᴰ·tail, List·Memᴰ·not-nil, List·Memᴰ·cases-cons}
+use mathlib.Core.List.{List, [], _∷_, List·Memᴰ, List·Memᴰ·head, List·Memᴰ·tail, List·Memᴰ·not-nil}
+use mathlib.Core.List.{List·Memᴰ·cases-cons}
 use Prim.Native.Nat.{ℕ}
 use native.Mathlib.Decide.{ℕ-discrete}
 use native.Mathlib.Nat.{add-zero}
@@ -134,9 +136,10 @@ tells-same [] (Run.call h number run) e = absurd (omega (arith, ap length e))
 tells-same (f ∷ l) {s} {s′} {t} (Run.call {m = m} {t₁ = t₁} {r = r} h number run) e =
     tells-same l run (ap rest e) ∙ told-same (subst (λ (c : Intake). Owed (taking c s t) (r, t₁)) (same-first e) h)
 
--- "with the same outcome as telling all those noes one by one, in any order, or nothing changed if one of them contradicts": for every list
--- that has the noes of the clip and no other fact, and every run that tells them. The clip is accepted exactly where each of them is, and
--- then leaves what they leave; otherwise it is refused with 6, and nothing changed.
+-- "with the same outcome as telling all those noes one by one, in any order, or nothing changed if one of them
+-- contradicts": for every list that has the noes of the clip and no other fact, and every run that tells them. The
+-- clip is accepted exactly where each of them is, and then leaves what they leave; otherwise it is refused with 6,
+-- and nothing changed.
 pub clip-told :
     {s : Session} {t : List ℕ} {played : List Bool} {r : Reply} {t′ : List ℕ} {made : List Made} {s″ : Session} {t″ : List ℕ}
     → Owed (clip s t played) (r, t′) → First (standing s t []) 0 → ¬ MemberBeyond (s .classes) played

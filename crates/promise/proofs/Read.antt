@@ -24,7 +24,8 @@ use Rattle.promise.proofs.Fresh.{fresh-unique, fresh-there, fresh-stand
 use Rattle.promise.proofs.Taking.{leaves-keeps}
 use Rattle.promise.proofs.Tell.{tell-unique, tell-there, tell-leaves, tell-numbers}
 use Rattle.promise.proofs.Tags.{field-there, field-numbers}
-use Rattle.promise.proofs.Book.{FieldAt, field-within, ends-within, SaidAt, PlacesRise, Later, CountFirst, Whole, items-whole}
+use Rattle.promise.proofs.Book.{FieldAt, field-within, ends-within, SaidAt, PlacesRise, Later, CountFirst}
+use Rattle.promise.proofs.Book.{Whole, items-whole}
 
 -- one outcome at most
 

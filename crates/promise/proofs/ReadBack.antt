@@ -14,7 +14,8 @@ use Rattle.order.specs.Tables.{mark, Sound, Marks, SameMarks, TableOf, markFor,
 use Rattle.order.specs.Orders.{Impossible}
 use Rattle.promise.specs.Refusals.{First, badVerdict}
 use Rattle.promise.proofs.Refusals.{first-unique}
-use Rattle.order.proofs.Sets.{and-none, none-and, Settled, Follows as Entailed, entails-subset, follows-one, with-listed, listed-with}
+use Rattle.order.proofs.Sets.{and-none, none-and, Settled, Follows as Entailed, entails-subset, follows-one}
+use Rattle.order.proofs.Sets.{with-listed, listed-with}
 use Rattle.order.proofs.Tables.{marks-within, sound-table, table-unique, table-of-equals}
 use Rattle.order.proofs.Exactness.{impossible-subset, table-possible}
 use Rattle.promise.specs.declared.Stage.the-variants.{Start, Begun}
@@ -26,14 +27,16 @@ use Rattle.promise.specs.Calls.{noSession, started, accepted, Owed, coun
 use Rattle.promise.specs.Clips.{truthOf}
 use Rattle.promise.specs.Tell.{Kind, tell}
 use Rattle.promise.specs.Runs.{StandsFor}
-use Rattle.promise.specs.Book.{fieldRefusals, Item, itemsOf, factOf, GoesOn, Follows, BookRead, field, PairsMarked, BookOf, writeRefusals, write}
+use Rattle.promise.specs.Book.{fieldRefusals, Item, itemsOf, factOf, GoesOn, Follows, BookRead, field}
+use Rattle.promise.specs.Book.{PairsMarked, BookOf, writeRefusals, write}
 use Rattle.promise.proofs.Standing.{standing-passed}
 use Rattle.promise.proofs.Calls.{changes-session}
 use Rattle.promise.proofs.Fresh.{fresh-accepted, fresh-stands}
 use Rattle.promise.proofs.Taking.{leaves-stands}
 use Rattle.promise.proofs.Tell.{tell-leaves, tell-refused}
 use Rattle.promise.proofs.Runs.{stands-equal}
-use Rattle.promise.proofs.BookSays.{tellsOf, pairFields, secondAt, pairItems, fields-fine, book-items, factsSaid, book-says, books-equal}
+use Rattle.promise.proofs.BookSays.{tellsOf, pairFields, secondAt, pairItems, fields-fine, book-items}
+use Rattle.promise.proofs.BookSays.{factsSaid, book-says, books-equal}
 
 -- every item tells a fact of S, or is a field that is not refused
 abbrev AllTold : Facts → List Item → Type 0

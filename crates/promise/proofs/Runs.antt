@@ -1,4 +1,5 @@
--- Demand 3, over any run of tells, answers and clips, refused ones among them; and the tally as a number read off the history.
+-- Demand 3, over any run of tells, answers and clips, refused ones among them; and the tally as a number read off the
+-- history.
 -- Assumes nothing.
 use mathlib.Core.Path.{_≡_, refl, _∙_, ap, subst, subst⁻¹}
 use mathlib.Core.Logic.{_↔_, _≢_, inl, inr}
@@ -17,7 +18,8 @@ use Rattle.order.proofs.Exactness.{exact}
 use Rattle.promise.specs.declared.Session.{Session}
 use Rattle.promise.specs.declared.Reply.{Reply}
 use Rattle.promise.specs.Calls.{Owed}
-use Rattle.promise.specs.Runs.{StandsFor, Intake, taking, SaidBy, Fits, addedBy, Made, Run, FromFresh, callsOf, UnlessRefused, Accepted, testsIn}
+use Rattle.promise.specs.Runs.{StandsFor, Intake, taking, SaidBy, Fits, addedBy, Made, Run, FromFresh, callsOf}
+use Rattle.promise.specs.Runs.{UnlessRefused, Accepted, testsIn}
 use Rattle.promise.proofs.Standing.{standing-passed}
 use Rattle.promise.proofs.Calls.{changes-kept, changes-session}
 use Rattle.promise.proofs.Fresh.{fresh-stands, fresh-there, fresh-accepted}
@@ -75,8 +77,9 @@ intake-opens (Intake.clipped played) s t h k e =
     let o = clip-opens h in
     rw (clip-session h) (refl, omega arith, omega arith)
 
--- "A fact on two classes below the count is refused as contradictory exactly when no order agrees with it and those accepted before", a
--- clip "exactly when no order agrees with all of them and the facts accepted before"; and neither is refused for another reason
+-- "A fact on two classes below the count is refused as contradictory exactly when no order agrees with it and those
+-- accepted before", a clip "exactly when no order agrees with all of them and the facts accepted before"; and neither
+-- is refused for another reason
 pub intake-contradicted :
     (c : Intake) (s : Session) (t : List ℕ) {S : Facts} {r : Reply} {t′ : List ℕ} → StandsFor S s t → Fits (s .classes) c
     → Owed (taking c s t) (r, t′)
@@ -122,8 +125,8 @@ fresh-run-stands {n} {made = made} h =
     (run-stands (ap (λ (s : Session). s .classes) (changes-session (h .began) (h .accepted)))
     (fresh-stands (h .began) (h .accepted)) (h .run))
 
--- the class count stays; the tally grows by the tests of the history; "From any moment on, answers counted since plus pairs still open
--- never exceed the pairs open at that moment"
+-- the class count stays; the tally grows by the tests of the history; "From any moment on, answers counted since plus
+-- pairs still open never exceed the pairs open at that moment"
 pub run-tests :
     {s s′ : Session} {t t′ : List ℕ} {made : List Made} (run : Run s t made s′ t′)
     → (s′ .classes ≡ s .classes) × (s′ .tests ≡ s .tests + testsIn run)
@@ -174,8 +177,8 @@ module _ {n : ℕ} {t : List ℕ} {made : List Made} {s′ : Session} {t′ : Li
   fresh-run-table =
       subst (λ (k : ℕ). TableOf k (Accepted n made) t′) fresh-run-classes (fresh-run-stands h .table)
 
-  -- "After each call a pair is yes exactly when every order agreeing with all accepted facts has it, no exactly when none has it, open
-  -- otherwise."
+  -- "After each call a pair is yes exactly when every order agreeing with all accepted facts has it, no exactly when
+  -- none has it, open otherwise."
   pub fresh-run-exact : (a b : ℕ) → a < n → b < n → Exact n (Accepted n made) t′ a b
   fresh-run-exact =
       exact
@@ -183,8 +186,9 @@ module _ {n : ℕ} {t : List ℕ} {made : List Made} {s′ : Session} {t′ : Li
       subst (λ (k : ℕ). Below k f) fresh-run-classes (fresh-run-stands h .within f m))
       fresh-run-table
 
-  -- "A fact on two classes below the count is refused as contradictory exactly when no order agrees with it and those accepted before."
-  -- And a clip "is refused as contradictory exactly when no order agrees with all of them and the facts accepted before".
+  -- "A fact on two classes below the count is refused as contradictory exactly when no order agrees with it and those
+  -- accepted before." And a clip "is refused as contradictory exactly when no order agrees with all of them and the
+  -- facts accepted before".
   pub fresh-run-refused :
       (c : Intake) {r : Reply} {t″ : List ℕ} → Fits n c → Owed (taking c s′ t′) (r, t″)
       → ((r .number ≢ 0) ↔ Impossible n (Accepted n made and SaidBy n c)) × (r .number ≢ 0 → r .number ≡ 6)
@@ -195,8 +199,8 @@ module _ {n : ℕ} {t : List ℕ} {made : List Made} {s′ : Session} {t′ : Li
       fresh-run-classes
       (intake-contradicted c s′ t′ (fresh-run-stands h) (rw fresh-run-classes b) makes)
 
--- "Hence, if one list of facts is contained in another and both are accepted whole, nothing settled by the first reads differently
--- under the second."
+-- "Hence, if one list of facts is contained in another and both are accepted whole, nothing settled by the first
+-- reads differently under the second."
 pub fresh-runs-agree :
     {n : ℕ} {t t₂ : List ℕ} {made made₂ : List Made} {s s₂ : Session} {u u₂ : List ℕ} → FromFresh n t made s u
     → FromFresh n t₂ made₂ s₂ u₂ → Accepted n made ⊆ Accepted n made₂ → (a b : ℕ) → a < n → b < n

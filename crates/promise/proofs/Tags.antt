@@ -17,7 +17,8 @@ use Rattle.promise.proofs.Refusals.{stage as judge}
 use Rattle.promise.specs.declared.Stage.{Stage}
 use Rattle.promise.specs.declared.Stage.the-variants.{Start, Begun}
 use Rattle.promise.specs.Tell.{Kind}
-use Rattle.promise.specs.Book.{atStart, onceBegun, countRow, factsRow, Lookup, rowOf, lengthOf, sizeOf, rowRefusals, fieldRefusals}
+use Rattle.promise.specs.Book.{atStart, onceBegun, countRow, factsRow, Lookup, rowOf, lengthOf, sizeOf}
+use Rattle.promise.specs.Book.{rowRefusals, fieldRefusals}
 
 -- the tags of facts: how many bytes a fact has, how it is taken, and its verdict
 pub data FactsTag : ℕ → ℕ → Kind → (List ℕ → ℕ) → Type 0 where

@@ -1,4 +1,5 @@
--- What a call that takes facts in leaves where it is accepted, a tell, an answer or a clip: a session and a table that stand.
+-- What a call that takes facts in leaves where it is accepted, a tell, an answer or a clip: a session and a table
+-- that stand.
 -- Assumes nothing.
 use mathlib.Core.Path.{_≡_, refl}
 use mathlib.Core.List.{List, []}

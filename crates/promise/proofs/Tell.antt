@@ -14,7 +14,8 @@ use Rattle.order.specs.Orders.{Impossible}
 use Rattle.promise.specs.Refusals.{First, standing}
 use Rattle.order.proofs.Decide.{either}
 use Rattle.promise.proofs.Refusals.{stage}
-use Rattle.order.proofs.Tables.{table-unique, table-settled, sound-table, marks-within, mark-for-settled, for-not-against}
+use Rattle.order.proofs.Tables.{table-unique, table-settled, sound-table, marks-within, mark-for-settled}
+use Rattle.order.proofs.Tables.{for-not-against}
 use Rattle.order.proofs.Exactness.{contradicts-exact}
 use Rattle.order.proofs.Bytes.{rest-refl, front-mark, front-rest}
 use Rattle.order.proofs.Counts.{opens-with}
@@ -24,7 +25,8 @@ use Rattle.promise.specs.declared.Reply.{Reply}
 use Rattle.promise.specs.Calls.{tested, accepted, Owed, over}
 use Rattle.promise.specs.Tell.{Kind, adds, tellRefusals, tell}
 use Rattle.promise.specs.Runs.{StandsFor}
-use Rattle.promise.proofs.Standing.{Stands, standing-passed, stands-first, first-stands, standing-there, below-of}
+use Rattle.promise.proofs.Standing.{Stands, standing-passed, stands-first, first-stands, standing-there}
+use Rattle.promise.proofs.Standing.{below-of}
 use Rattle.promise.proofs.Taking.{Leaves, stands-of}
 use Rattle.promise.proofs.Calls.{owed-done, changes-unique, changes-kept, changes-session, changes-there}
 
@@ -166,8 +168,8 @@ tell-numbers kind {s} {t} {f} {r} st h = go (stands-first (tellRefusals s t f) s
     go (inr (_, inl (_, e))) = inr (inr e)
     go (inr (_, inr (_, e))) = inl e
 
--- "A fact on two classes below the count is refused as contradictory exactly when no order agrees with it and those accepted before",
--- and it is refused for no other reason
+-- "A fact on two classes below the count is refused as contradictory exactly when no order agrees with it and those
+-- accepted before", and it is refused for no other reason
 pub tell-refused :
     (kind : Kind) {S : Facts} {s : Session} {t : List ℕ} {f : Fact} {r : Reply} {t′ : List ℕ} → StandsFor S s t
     → Below (s .classes) f → Owed (tell kind s t f) (r, t′)

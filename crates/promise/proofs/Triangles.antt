@@ -1,4 +1,5 @@
--- Direct steps make no triangle, so that there are at most n * n / 4 of them, and the room that the program keeps for them suffices.
+-- Direct steps make no triangle, so that there are at most n * n / 4 of them, and the room that the program keeps for
+-- them suffices.
 -- Assumes nothing.
 use mathlib.Core.Path.{sym, ap}
 use mathlib.Core.Logic.{_≢_, inl, inr}

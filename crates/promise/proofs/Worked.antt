@@ -3,7 +3,8 @@
 use mathlib.Core.Path.{_≡_, refl, subst}
 use native.Mathlib.Decide.{ℕ-discrete, decLt, decLe}
 use Rattle.order.specs.Tables.{mark, opensTo}
-use Rattle.order.proofs.Decide.{both, either, implies, negated, as-well, all-below, some-below, all-pairs, least, least-from}
+use Rattle.order.proofs.Decide.{both, either, implies, negated, as-well, all-below, some-below, all-pairs, least}
+use Rattle.order.proofs.Decide.{least-from}
 use Rattle.promise.proofs.Refusals.{stage}
 use Rattle.order.proofs.Sound.{is, sound?, transitive?, pruned?}
 use Rattle.order.proofs.Taking.{yes-after-yes?, no-after-yes?, no-after-no?}
@@ -23,8 +24,10 @@ use Rattle.promise.proofs.Clips.{beyond?, clip-contradicts?, clipped-no
 use Rattle.promise.proofs.Next.{first-of, next-there}
 use Rattle.promise.proofs.Counts.{too-short?, writes-there, open-pairs-there}
 use Rattle.promise.proofs.Crossing.{next-for-C-there, open-pairs-for-C-there, writes-for-C-there}
-use Rattle.promise.proofs.Hierarchy.{under?, equal?, head-of?, head?, third?, direct?, head-there, list-there, heads-there, hierarchy-there}
-use Rattle.promise.proofs.Ladder.{number-there, above?, to-go, between, direct-there, rung-there, rungs-there, ladder-there, ladder-made, ladder-written-there}
+use Rattle.promise.proofs.Hierarchy.{under?, equal?, head-of?, head?, third?, direct?, head-there, list-there}
+use Rattle.promise.proofs.Hierarchy.{heads-there, hierarchy-there}
+use Rattle.promise.proofs.Ladder.{number-there, above?, to-go, between, direct-there, rung-there, rungs-there}
+use Rattle.promise.proofs.Ladder.{ladder-there, ladder-made, ladder-written-there}
 use Rattle.promise.proofs.Tags.{row-there, field-there}
 use Rattle.promise.proofs.Read.{goes-there, verdict-there, made-there, follows-there, read-there}
 use Rattle.promise.proofs.Write.{off?, book-there, write-there}

@@ -30,7 +30,8 @@ use Rattle.promise.proofs.Hierarchy.{hierarchy-unique}
 use Rattle.promise.proofs.Ladder.{ladder-written-unique}
 use Rattle.promise.proofs.Read.{read-unique}
 use Rattle.promise.proofs.Write.{write-unique}
-use Rattle.promise.proofs.Table.{Mark, p2, p3, p4, p7, p8, p11, p12, afterYes, oneUnderTwo, firstTwo, firstOne, three, four, nines, example}
+use Rattle.promise.proofs.Table.{Mark, p2, p3, p4, p7, p8, p11, p12, afterYes, oneUnderTwo, firstTwo, firstOne}
+use Rattle.promise.proofs.Table.{three, four, nines, example}
 use Rattle.promise.proofs.Worked.{met}
 
 -- A contract: what goes in, what comes out, what is owed, the refusal number, and that what is owed fixes the outcome.

@@ -12,8 +12,8 @@ pub struct Clip {
     pub played: [bool; MOST_CLASSES],
 }
 
-// What fresh, tell, answer, clip and read give: the refusal number, 0 where the call was accepted; its place, 0 outside books; the session
-// that holds from now on.
+// What fresh, tell, answer, clip and read give: the refusal number, 0 where the call was accepted; its place, 0
+// outside books; the session that holds from now on.
 #[repr(C)]
 pub struct Reply {
     pub number: u8,
@@ -28,14 +28,15 @@ pub enum Question {
     Refused { number: u8, place: usize },
 }
 
-// What the calls that count give: how many pairs are open, how many steps, rungs or bytes were written, or a refusal with its number and
-// place.
+// What the calls that count give: how many pairs are open, how many steps, rungs or bytes were written, or a refusal
+// with its number and place.
 pub enum Counted {
     Count(usize),
     Refused { number: u8, place: usize },
 }
 
-// What next gives to C: the refusal number, 0 where there is none, and its place; whether a pair is asked about, and which.
+// What next gives to C: the refusal number, 0 where there is none, and its place; whether a pair is asked about, and
+// which.
 #[repr(C)]
 pub struct CrossedQuestion {
     pub number: u8,
@@ -45,7 +46,8 @@ pub struct CrossedQuestion {
     pub upper: usize,
 }
 
-// What the calls that count give to C: the refusal number, 0 where there is none, and its place; the count, 0 where it is refused.
+// What the calls that count give to C: the refusal number, 0 where there is none, and its place; the count, 0 where
+// it is refused.
 #[repr(C)]
 pub struct CrossedCount {
     pub number: u8,

@@ -16,7 +16,8 @@ use Rattle.promise.specs.declared.Session.{Session}
 use Rattle.promise.specs.declared.Reply.{Reply}
 use Rattle.promise.specs.Calls.{noSession, reply, accepted}
 use Rattle.session.specs.Facts.{kindOf}
-use Rattle.promise.specs.Book.{onceBegun, rowOf, lengthOf, sizeOf, fieldRefusals, Item, factsFrom, stageBehind, itemsOf, Follows, BookRead}
+use Rattle.promise.specs.Book.{onceBegun, rowOf, lengthOf, sizeOf, fieldRefusals, Item, factsFrom, stageBehind}
+use Rattle.promise.specs.Book.{itemsOf, Follows, BookRead}
 use Rattle.promise.proofs.Items.{itemsAt, items-start, items-end, items-field, facts-step, facts-end}
 use Rattle.promise.proofs.Book.{ends-within, stage-behind}
 use Rattle.reading.specs.declared.tags.Row.{Row}

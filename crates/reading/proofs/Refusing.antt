@@ -16,7 +16,8 @@ use Rattle.promise.specs.declared.Session.{Session}
 use Rattle.promise.specs.Book.{Contents, Lookup, rowOf, lengthOf, rowRefusals, fieldRefusals, Item}
 use Rattle.promise.proofs.Tags.{Right, field-right, items-short}
 use Rattle.reading.specs.declared.tags.Row.{Row}
-use Rattle.reading.specs.Parts.{rowBy, rowFor, standsAt, allowsLength, factsAt, saidAt, FactsReady, HeadRead, FieldRight}
+use Rattle.reading.specs.Parts.{rowBy, rowFor, standsAt, allowsLength, factsAt, saidAt, FactsReady, HeadRead}
+use Rattle.reading.specs.Parts.{FieldRight}
 use Rattle.reading.proofs.Rows.{wide-row}
 
 -- the head of a field, read

@@ -15,7 +15,8 @@ use Rattle.promise.specs.declared.Reply.{Reply}
 use Rattle.promise.specs.Calls.{reply}
 use Rattle.promise.specs.Tell.{Kind}
 use Rattle.session.specs.Facts.{kindOf}
-use Rattle.promise.specs.Book.{countRow, factsRow, Lookup, rowOf, lengthOf, fieldRefusals, Item, factsFrom, fieldSays, Follows}
+use Rattle.promise.specs.Book.{countRow, factsRow, Lookup, rowOf, lengthOf, fieldRefusals, Item, factsFrom, fieldSays}
+use Rattle.promise.specs.Book.{Follows}
 use Rattle.reading.specs.declared.tags.Row.{Row}
 
 -- the verdict that the bytes from a fact on give: an answer's own byte, or that of the tag

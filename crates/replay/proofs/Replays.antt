@@ -23,7 +23,8 @@ use Rattle.clips.specs.Seen.{SameFlags}
 use Rattle.promise.proofs.Flags.{flag-there}
 use Rattle.promise.proofs.Clips.{clip-same-members}
 use Rattle.promise.proofs.Fresh.{fresh-unique}
-use Rattle.promise.proofs.Runs.{run-unique, run-then, calls-then, fresh-run-exact, fresh-run-refused, fresh-run-tests, fresh-runs-agree}
+use Rattle.promise.proofs.Runs.{run-unique, run-then, calls-then, fresh-run-exact, fresh-run-refused, fresh-run-tests}
+use Rattle.promise.proofs.Runs.{fresh-runs-agree}
 use Rattle.replay.specs.Replay.{clipFlags, callOf, callAt, firstCalls, Ran, Replayed}
 
 -- the first i calls of a list, made from a session and a table
@@ -79,13 +80,14 @@ module _ {n : ℕ} {t numbers : List ℕ} {flags : List Bool} {r : Reply} {t′ 
   abbrev made : List Made
   made = h .ran z .made
 
-  -- "After each call a pair is yes exactly when every order agreeing with all accepted facts has it, no exactly when none has it, open
-  -- otherwise."
+  -- "After each call a pair is yes exactly when every order agreeing with all accepted facts has it, no exactly when
+  -- none has it, open otherwise."
   pub replay-exact : (a b : ℕ) → a < n → b < n → Exact n (Accepted n made) t′ a b
   replay-exact = fresh-run-exact (h .ran z .run)
 
-  -- "A fact on two classes below the count is refused as contradictory exactly when no order agrees with it and those accepted before."
-  -- And a clip "is refused as contradictory exactly when no order agrees with all of them and the facts accepted before".
+  -- "A fact on two classes below the count is refused as contradictory exactly when no order agrees with it and those
+  -- accepted before." And a clip "is refused as contradictory exactly when no order agrees with all of them and the
+  -- facts accepted before".
   pub replay-refused :
       (c : Intake) {r₂ : Reply} {t₂ : List ℕ} → Fits n c → Owed (taking c (r .session) t′) (r₂, t₂)
       → ((r₂ .number ≢ 0) ↔ Impossible n (Accepted n made and SaidBy n c)) × (r₂ .number ≢ 0 → r₂ .number ≡ 6)
@@ -95,8 +97,8 @@ module _ {n : ℕ} {t numbers : List ℕ} {flags : List Bool} {r : Reply} {t′ 
   pub replay-tests : r .session .tests ≡ testsIn (h .ran z .run .run)
   replay-tests = fresh-run-tests (h .ran z .run)
 
--- "Hence, if one list of facts is contained in another and both are accepted whole, nothing settled by the first reads differently
--- under the second."
+-- "Hence, if one list of facts is contained in another and both are accepted whole, nothing settled by the first
+-- reads differently under the second."
 pub replays-agree :
     {n : ℕ} {t t₂ numbers numbers₂ : List ℕ} {flags flags₂ : List Bool} {r r₂ : Reply} {u u₂ : List ℕ} (h : Replayed n t numbers flags r u)
     (h₂ : Replayed n t₂ numbers₂ flags₂ r₂ u₂) (z : r .number ≡ 0) (z₂ : r₂ .number ≡ 0)

@@ -27,15 +27,16 @@ callOf (suc (suc k)) first second holds flags = Intake.clipped (clipFlags flags 
 -- call i
 abbrev pub callAt : List ℕ → List Bool → ℕ → Intake
 callAt numbers flags i =
-    callOf (getD numbers (4 * i) 0) (getD numbers (4 * i + 1) 0) (getD numbers (4 * i + 2) 0) (truthOf (getD numbers (4 * i + 3) 0)) flags
+    callOf (getD numbers (4 * i) 0) (getD numbers (4 * i + 1) 0) (getD numbers (4 * i + 2) 0)
+    (truthOf (getD numbers (4 * i + 3) 0)) flags
 
 -- the first k calls
 unfoldable pub firstCalls : List ℕ → List Bool → ℕ → List Intake
 firstCalls numbers flags zero = []
 firstCalls numbers flags (suc k) = firstCalls numbers flags k ++ callAt numbers flags k ∷ []
 
--- "any run of tells and answers from a fresh table, refused ones among them, table and tally passed on untouched", with clips among them:
--- the calls made are those of the list
+-- "any run of tells and answers from a fresh table, refused ones among them, table and tally passed on untouched",
+-- with clips among them: the calls made are those of the list
 pub record Ran (n : ℕ) (t numbers : List ℕ) (flags : List Bool) (s′ : Session) (t′ : List ℕ) : Type 0 where
   pub made : List Made
   pub run : FromFresh n t made s′ t′

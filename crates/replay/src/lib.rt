@@ -64,10 +64,12 @@ fn make(session: Session, table: &mut [u8], numbers: &[usize], flags: &[bool], i
     }
 }
 
-// fresh, and then every call of a history, table and session passed on untouched. Four numbers are a call. 0 is a tell and 1 an
-// answer, with the lower class, the upper class, the verdict; any other is a clip, with its number among those whose flags are lent, 128 to a clip.
+// fresh, and then every call of a history, table and session passed on untouched. Four numbers are a call. 0 is a
+// tell and 1 an answer, with the lower class, the upper class, the verdict; any other is a clip, with its number
+// among those whose flags are lent, 128 to a clip.
 pub fn replay(classes: usize, table: &mut [u8], numbers: &[usize], flags: &[bool]) -> Reply
-    ensures { λ r. ⌜ Replayed classes (now (table .entry)) (now (numbers .entry)) (now (flags .entry)) r (now (table .exit)) ⌝ }
+    ensures { λ r. ⌜ Replayed classes (now (table .entry)) (now (numbers .entry)) (now (flags .entry)) r
+        (now (table .exit)) ⌝ }
 {
     let first = session::fresh(classes, &mut *table);
     if first.number != 0 {

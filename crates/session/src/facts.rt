@@ -47,7 +47,8 @@ pub fn take_fact(
     counts: bool,
 ) -> Reply
     requires { ⌜ First (standing session (now table) []) 0 ⌝ }
-    ensures { λ r. ⌜ Owed (tell (kindOf counts) session (now (table .entry)) (factOn lower upper holds)) (r, now (table .exit)) ⌝ }
+    ensures { λ r. ⌜ Owed (tell (kindOf counts) session (now (table .entry)) (factOn lower upper holds))
+        (r, now (table .exit)) ⌝ }
 {
     let n = session.classes;
     if n <= lower {
@@ -76,7 +77,8 @@ pub fn take(
     holds: bool,
     counts: bool,
 ) -> Reply
-    ensures { λ r. ⌜ Owed (tell (kindOf counts) session (now (table .entry)) (factOn lower upper holds)) (r, now (table .exit)) ⌝ }
+    ensures { λ r. ⌜ Owed (tell (kindOf counts) session (now (table .entry)) (factOn lower upper holds))
+        (r, now (table .exit)) ⌝ }
 {
     let number = standing::first_refusal(session, &*table);
     if number != 0 {

@@ -1,4 +1,5 @@
-// The calls fresh, tell, answer and next. None has a requires: any class count, tally, table and class numbers get an answer or a refusal.
+// The calls fresh, tell, answer and next. None has a requires: any class count, tally, table and class numbers get an
+// answer or a refusal.
 mod facts;
 mod replies;
 
@@ -39,14 +40,16 @@ pub fn fresh(classes: usize, table: &mut [u8]) -> Reply
 
 // A fact is told: it never counts as a test.
 pub fn tell(session: Session, table: &mut [u8], lower: usize, upper: usize, holds: bool) -> Reply
-    ensures { λ r. ⌜ Owed (tell Kind.told session (now (table .entry)) (factOn lower upper holds)) (r, now (table .exit)) ⌝ }
+    ensures { λ r. ⌜ Owed (tell Kind.told session (now (table .entry)) (factOn lower upper holds))
+        (r, now (table .exit)) ⌝ }
 {
     facts::take(session, &mut *table, lower, upper, holds, false)
 }
 
 // A fact is given as an answer: it counts as a test where its pair was open.
 pub fn answer(session: Session, table: &mut [u8], lower: usize, upper: usize, holds: bool) -> Reply
-    ensures { λ r. ⌜ Owed (tell Kind.answered session (now (table .entry)) (factOn lower upper holds)) (r, now (table .exit)) ⌝ }
+    ensures { λ r. ⌜ Owed (tell Kind.answered session (now (table .entry)) (factOn lower upper holds))
+        (r, now (table .exit)) ⌝ }
 {
     facts::take(session, &mut *table, lower, upper, holds, true)
 }

@@ -2,8 +2,8 @@
 
 const MODULUS: usize = 1000000007;
 
-// The numbers as far as they are read. The phase is 1 within the first run of digits and 3 within the second, 0 before, 2 between and 4
-// behind them.
+// The numbers as far as they are read. The phase is 1 within the first run of digits and 3 within the second, 0
+// before, 2 between and 4 behind them.
 pub struct Input {
     pub seed: usize,
     pub rounds: usize,

@@ -2,8 +2,8 @@
 use promise::Session;
 ghost use Rattle.io.specs.Counts.{Counts};
 
-// The state of the draws, the length of the book last written, the session, and the five buffers; besides, what the call to come is
-// given, and what the last one said: whether it was accepted, and whether it asked.
+// The state of the draws, the length of the book last written, the session, and the five buffers; besides, what the
+// call to come is given, and what the last one said: whether it was accepted, and whether it asked.
 pub struct Kept {
     pub state: usize,
     pub length: usize,
@@ -18,8 +18,8 @@ pub struct Kept {
     pub book: [u8; 512],
 }
 
-// What a call is given: a session, and so many bytes of the table, of which one may be changed for it. Its place is past the table where
-// none is; byte is its new value before the change and its old one after it.
+// What a call is given: a session, and so many bytes of the table, of which one may be changed for it. Its place is
+// past the table where none is; byte is its new value before the change and its old one after it.
 pub struct Given {
     pub session: Session,
     pub lent: usize,

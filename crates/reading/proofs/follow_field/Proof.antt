@@ -8,24 +8,12 @@ use borrow.Author.Needs.{needs}
 use Rattle.reading.proofs.follow_field.Statement.{statement}
 use Rattle.reading.proofs.follow_field.Tie as tie
 
-add-start : tie.Need-add-start
-add-start c = search needs
-
 shared-slice-read-classes : tie.Need-shared-slice-read-classes
 shared-slice-read-classes c = count-within (c .before .before .before .before .pre) (c .before .if1 .taken)
 
 cast-classes : tie.Need-cast-classes
 cast-classes c =
     omega (arith, c .shared-slice-known2 .given (c .before .before .before .before .args .at + 3))
-
-fresh-requires : tie.Need-fresh-requires
-fresh-requires c κs = search needs
-
-placed-requires : tie.Need-placed-requires
-placed-requires c κs = search needs
-
-same-length : tie.Need-same-length
-same-length c = search needs
 
 returns : tie.Need-returns
 returns c =
@@ -37,9 +25,6 @@ returns c =
 follow-facts-requires : tie.Need-follow-facts-requires
 follow-facts-requires c κs = facts-ready (c .before .before .before .before .pre) (c .before .if1 .left)
 
-same-length-2 : tie.Need-same-length-2
-same-length-2 c = search needs
-
 returns-2 : tie.Need-returns-2
 returns-2 c =
     let called = c .before .before in
@@ -50,13 +35,13 @@ pub follow-field-spec : {M : Type 1} → statement M
 follow-field-spec =
     tie.close
     (tie.spec
-    add-start
+    (λ c. search needs)
     shared-slice-read-classes
     cast-classes
-    fresh-requires
-    placed-requires
-    same-length
+    (λ c κs. search needs)
+    (λ c κs. search needs)
+    (λ c. search needs)
     returns
     follow-facts-requires
-    same-length-2
+    (λ c. search needs)
     returns-2)

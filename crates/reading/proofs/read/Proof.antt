@@ -5,7 +5,8 @@ use Prim.Native.Nat.{_+_, _-_, _≤_}
 use native.Mathlib.Omega.{arith}
 use borrow.Author.Needs.{needs}
 use lib.ListN.{length}
-use Rattle.reading.proofs.Advance.{FieldsLeft, fields-left, read-empty, field-ready, book-refused, next-within, fields-next, book-read}
+use Rattle.reading.proofs.Advance.{FieldsLeft, fields-left, read-empty, field-ready, book-refused, next-within}
+use Rattle.reading.proofs.Advance.{fields-next, book-read}
 use Rattle.reading.proofs.read.Statement.{statement}
 use Rattle.reading.proofs.read.Tie as tie
 
@@ -14,12 +15,6 @@ Inv-loop book table₀ session₀ stage₀ at₀ table session stage at = Fields
 
 abbrev μ-loop : tie.MeasureT-loop
 μ-loop book table₀ session₀ stage₀ at₀ table session stage at = length book - at
-
-no-session-requires : tie.Need-no-session-requires Inv-loop μ-loop
-no-session-requires c κs = search needs
-
-stopped-requires : tie.Need-stopped-requires Inv-loop μ-loop
-stopped-requires c κs = search needs
 
 returns : tie.Need-returns Inv-loop μ-loop
 returns c = rw (c .stopped .ensures, c .before .before .no-session .ensures) (read-empty _ _ (c .before .if1 .taken))
@@ -80,9 +75,6 @@ loop-again c =
     (omega (arith, called .before .before .length-at .ensures .0)) (c .before .if2 .left)
     (called .read-field .kept .1 .1 .1 .1 .1 .0)
 
-accepted-requires : tie.Need-accepted-requires Inv-loop μ-loop
-accepted-requires c κs = search needs
-
 same-length-2 : tie.Need-same-length-2 Inv-loop μ-loop
 same-length-2 c = c .before .before .loop .inv .kept
 
@@ -95,8 +87,8 @@ read-spec =
     (tie.spec
     Inv-loop
     μ-loop
-    no-session-requires
-    stopped-requires
+    (λ c κs. search needs)
+    (λ c κs. search needs)
     returns
     loop-holds
     length-at-requires
@@ -107,6 +99,6 @@ read-spec =
     add-at-2
     loop-less
     loop-again
-    accepted-requires
+    (λ c κs. search needs)
     same-length-2
     returns-3)

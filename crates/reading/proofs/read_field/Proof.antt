@@ -11,12 +11,6 @@ use borrow.Author.Needs.{needs}
 use Rattle.reading.proofs.read_field.Statement.{statement}
 use Rattle.reading.proofs.read_field.Tie as tie
 
-shared-slice-read-row-of : tie.Need-shared-slice-read-row-of
-shared-slice-read-row-of c = search needs
-
-row-of-requires : tie.Need-row-of-requires
-row-of-requires c κs = search needs
-
 -- the head is read
 head :
     (c : tie.After-row-of)
@@ -26,9 +20,6 @@ head c =
 
 field-refusal-requires : tie.Need-field-refusal-requires
 field-refusal-requires c κs = head c
-
-stopped-requires : tie.Need-stopped-requires
-stopped-requires c κs = search needs
 
 returns : tie.Need-returns
 returns c =
@@ -52,9 +43,6 @@ follow-field-requires c κs =
       stands = start .pre .stands;
     }
 
-same-length : tie.Need-same-length
-same-length c = search needs
-
 returns-2 : tie.Need-returns-2
 returns-2 c =
     let called = c .before .before in
@@ -68,11 +56,11 @@ pub read-field-spec : {M : Type 1} → statement M
 read-field-spec =
     tie.close
     (tie.spec
-    shared-slice-read-row-of
-    row-of-requires
+    (λ c. search needs)
+    (λ c κs. search needs)
     field-refusal-requires
-    stopped-requires
+    (λ c κs. search needs)
     returns
     follow-field-requires
-    same-length
+    (λ c. search needs)
     returns-2)

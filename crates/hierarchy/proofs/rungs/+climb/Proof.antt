@@ -6,7 +6,8 @@ use Prim.Native.Nat.{ℕ, _<_}
 use native.Mathlib.Omega.{arith}
 use lib.ListN.{length-set}
 use Rattle.promise.proofs.Ladder.{to-go, rung-falls}
-use Rattle.hierarchy.proofs.Climbing.{Beyond, beyond-none, beyond-next, climbed, not-climbed, at-top, not-top, next-reached}
+use Rattle.hierarchy.proofs.Climbing.{Beyond, beyond-none, beyond-next, climbed, not-climbed, at-top, not-top}
+use Rattle.hierarchy.proofs.Climbing.{next-reached}
 use borrow.Fn.Kinds.{In}
 use borrow.Fn.PlainCycle.{Measures, is, falls, and}
 use Rattle.hierarchy.proofs.rungs.climb.Reads as climb

@@ -1,4 +1,5 @@
--- `marks::whole::fresh_marks` meets its contract: all marks are open, and then the diagonal is yes as far as it was passed.
+-- `marks::whole::fresh_marks` meets its contract: all marks are open, and then the diagonal is yes as far as it was
+-- passed.
 -- Assumes nothing.
 use mathlib.Core.Path.{_≡_, refl, sym, _∙_}
 use mathlib.Core.Logic.{_≢_, ⊎-elim}

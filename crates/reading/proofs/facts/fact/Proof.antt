@@ -8,12 +8,6 @@ use borrow.Author.Needs.{needs}
 use Rattle.reading.proofs.facts.fact.Statement.{statement}
 use Rattle.reading.proofs.facts.fact.Tie as tie
 
-verdict-requires : tie.Need-verdict-requires
-verdict-requires c κs = search needs
-
-stopped-requires : tie.Need-stopped-requires
-stopped-requires c κs = search needs
-
 returns : tie.Need-returns
 returns c = rw (c .stopped .ensures) (bad-verdict (omega (arith, c .before .before .verdict .ensures)))
 
@@ -37,15 +31,6 @@ cast-upper c =
     let a = c .before .before .before .before .before .before .args in
     omega (arith, c .shared-slice-known3 .given (a .at + 1))
 
-take-fact-requires : tie.Need-take-fact-requires
-take-fact-requires c κs = search needs
-
-placed-requires : tie.Need-placed-requires
-placed-requires c κs = search needs
-
-same-length : tie.Need-same-length
-same-length c = search needs
-
 returns-2 : tie.Need-returns-2
 returns-2 c =
     let tested = c .before .before .before .before .before .before .before in
@@ -58,15 +43,15 @@ pub fact-spec : {M : Type 1} → statement M
 fact-spec =
     tie.close
     (tie.spec
-    verdict-requires
-    stopped-requires
+    (λ c κs. search needs)
+    (λ c κs. search needs)
     returns
     add-second
     shared-slice-read-lower
     cast-lower
     shared-slice-read-upper
     cast-upper
-    take-fact-requires
-    placed-requires
-    same-length
+    (λ c κs. search needs)
+    (λ c κs. search needs)
+    (λ c. search needs)
     returns-2)

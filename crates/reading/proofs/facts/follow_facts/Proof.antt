@@ -4,7 +4,8 @@ use mathlib.Core.Path.{_∙_}
 use Prim.Native.Nat.{_-_}
 use native.Mathlib.Omega.{arith}
 use borrow.Author.Needs.{needs}
-use Rattle.reading.proofs.Advance.{FactsLeft, facts-left, some-bytes, fits, one-ready, refused-here, facts-next, all-followed}
+use Rattle.reading.proofs.Advance.{FactsLeft, facts-left, some-bytes, fits, one-ready, refused-here}
+use Rattle.reading.proofs.Advance.{facts-next, all-followed}
 use Rattle.reading.proofs.facts.follow_facts.Statement.{statement}
 use Rattle.reading.proofs.facts.follow_facts.Tie as tie
 
@@ -14,9 +15,6 @@ Inv-loop book row from size table₀ to at₀ current₀ table at current =
 
 abbrev μ-loop : tie.MeasureT-loop
 μ-loop book row from size table₀ to at₀ current₀ table at current = to - at
-
-add-to : tie.Need-add-to Inv-loop μ-loop
-add-to c = search needs
 
 loop-holds : tie.Need-loop-holds Inv-loop μ-loop
 loop-holds c = let p = c .before .before .pre in facts-left (p .0) (p .1)
@@ -56,9 +54,6 @@ loop-again c =
     (c .before .before .if1 .left)
     (called .fact .kept .1 .1 .1 .1 .0)
 
-accepted-requires : tie.Need-accepted-requires Inv-loop μ-loop
-accepted-requires c κs = search needs
-
 same-length-2 : tie.Need-same-length-2 Inv-loop μ-loop
 same-length-2 c = c .before .before .loop .inv .kept
 
@@ -71,7 +66,7 @@ follow-facts-spec =
     (tie.spec
     Inv-loop
     μ-loop
-    add-to
+    (λ c. search needs)
     loop-holds
     fact-requires
     same-length
@@ -79,6 +74,6 @@ follow-facts-spec =
     add-at
     loop-less
     loop-again
-    accepted-requires
+    (λ c κs. search needs)
     same-length-2
     returns-2)

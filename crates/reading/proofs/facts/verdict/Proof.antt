@@ -7,9 +7,6 @@ use borrow.Author.Needs.{needs}
 use Rattle.reading.proofs.facts.verdict.Statement.{statement}
 use Rattle.reading.proofs.facts.verdict.Tie as tie
 
-add-result : tie.Need-add-result
-add-result c = search needs
-
 shared-slice-read-result : tie.Need-shared-slice-read-result
 shared-slice-read-result c =
     let p = c .before .before .pre in
@@ -23,4 +20,4 @@ returns-2 : tie.Need-returns-2
 returns-2 c = rw (c .if1 .left) refl
 
 pub verdict-spec : {M : Type 1} → statement M
-verdict-spec = tie.close (tie.spec add-result shared-slice-read-result returns returns-2)
+verdict-spec = tie.close (tie.spec (λ c. search needs) shared-slice-read-result returns returns-2)

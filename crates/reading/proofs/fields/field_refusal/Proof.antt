@@ -11,9 +11,6 @@ use Rattle.reading.proofs.Refusing.{field-short, field-unknown, field-k
 use Rattle.reading.proofs.fields.field_refusal.Statement.{statement}
 use Rattle.reading.proofs.fields.field_refusal.Tie as tie
 
-sub-left : tie.Need-sub-left
-sub-left c = search needs
-
 returns : tie.Need-returns
 returns c = field-short _ (c .before .before .pre) (c .if1 .taken)
 
@@ -21,9 +18,6 @@ returns-2 : tie.Need-returns-2
 returns-2 c =
     let whole = c .before .before in
     field-unknown _ (whole .before .before .pre) (whole .if1 .left) (not-true _ (c .if2 .taken))
-
-stands-requires : tie.Need-stands-requires
-stands-requires c κs = search needs
 
 -- the row is known
 known : (c : tie.Else2) → c .before .before .before .before .args .row .known ≡ true
@@ -97,10 +91,10 @@ pub field-refusal-spec : {M : Type 1} → statement M
 field-refusal-spec =
     tie.close
     (tie.spec
-    sub-left
+    (λ c. search needs)
     returns
     returns-2
-    stands-requires
+    (λ c κs. search needs)
     returns-3
     allows-requires
     returns-4

@@ -5,26 +5,14 @@ use borrow.Author.Needs.{needs}
 use Rattle.reading.proofs.tags.row_of.Statement.{statement}
 use Rattle.reading.proofs.tags.row_of.Tie as tie
 
-facts-requires : tie.Need-facts-requires
-facts-requires c κs = search needs
-
 returns : tie.Need-returns
 returns c = rw (c .facts .ensures, c .before .if1 .taken) yes-row
-
-facts-requires-2 : tie.Need-facts-requires-2
-facts-requires-2 c κs = search needs
 
 returns-2 : tie.Need-returns-2
 returns-2 c = rw (c .facts2 .ensures, c .before .if2 .taken) no-row
 
-facts-requires-3 : tie.Need-facts-requires-3
-facts-requires-3 c κs = search needs
-
 returns-3 : tie.Need-returns-3
 returns-3 c = rw (c .facts3 .ensures, c .before .if3 .taken) answers-row
-
-no-facts-requires : tie.Need-no-facts-requires
-no-facts-requires c κs = search needs
 
 returns-4 : tie.Need-returns-4
 returns-4 c =
@@ -36,11 +24,11 @@ pub row-of-spec : {M : Type 1} → statement M
 row-of-spec =
     tie.close
     (tie.spec
-    facts-requires
+    (λ c κs. search needs)
     returns
-    facts-requires-2
+    (λ c κs. search needs)
     returns-2
-    facts-requires-3
+    (λ c κs. search needs)
     returns-3
-    no-facts-requires
+    (λ c κs. search needs)
     returns-4)

@@ -7,7 +7,8 @@ use native.Mathlib.Omega.{arith}
 use borrow.Author.Needs.{needs}
 use Rattle.promise.specs.Hierarchy.{Equal}
 use Rattle.marks.proofs.Answers.{refuted}
-use Rattle.steps.proofs.Lowest.{Lowest, lowest-none, lowest-pass, lowest-keep, lowest-take, lowest-least, lowest-has}
+use Rattle.steps.proofs.Lowest.{Lowest, lowest-none, lowest-pass, lowest-keep, lowest-take, lowest-least}
+use Rattle.steps.proofs.Lowest.{lowest-has}
 use Rattle.steps.proofs.heads.head_of.Statement.{statement}
 use Rattle.steps.proofs.heads.head_of.Tie as tie
 
