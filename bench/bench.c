@@ -1,6 +1,6 @@
-// The library against plain C, call by call: for each call and table the time of the library divided by that of plain C at 128 classes, and
-// how the library's time grows each time the classes are doubled. Only ratios are printed: they hold on other machines too. Before a call is
-// timed, both give the same answer and the same bytes.
+// The library against plain C, call by call: for each call and table the time of the library divided by that of plain
+// C at 128 classes, and how the library's time grows each time the classes are doubled. Only ratios are printed: they
+// hold on other machines too. Before a call is timed, both give the same answer and the same bytes.
 #define _POSIX_C_SOURCE 199309L
 
 #include <math.h>
@@ -84,11 +84,12 @@ struct program {
 };
 
 static const struct program LIBRARY = {
-    dawnhangra_fresh, dawnhangra_tell, dawnhangra_answer, dawnhangra_clip, dawnhangra_next, dawnhangra_hierarchy, dawnhangra_ladder,
-    dawnhangra_read, dawnhangra_write};
+    dawnhangra_fresh, dawnhangra_tell, dawnhangra_answer, dawnhangra_clip, dawnhangra_next, dawnhangra_hierarchy,
+    dawnhangra_ladder, dawnhangra_read, dawnhangra_write};
 
 static const struct program PLAIN = {
-    plain_fresh, plain_tell, plain_answer, plain_clip, plain_next, plain_hierarchy, plain_ladder, plain_read, plain_write};
+    plain_fresh, plain_tell, plain_answer, plain_clip, plain_next, plain_hierarchy, plain_ladder, plain_read,
+    plain_write};
 
 static void fail(const char *what)
 {
@@ -106,7 +107,8 @@ static size_t pick(size_t limit)
 
 // The orders.
 
-// Each class has two numbers and is under those that have both as high. One in eight has the numbers of an earlier class.
+// Each class has two numbers and is under those that have both as high. One in eight has the numbers of an earlier
+// class.
 static void random_order(size_t n, bool *under)
 {
     size_t x[MOST], y[MOST];
@@ -209,7 +211,8 @@ static void find_longest(struct input *in)
     uint8_t rungs[MOST];
     for (size_t i = 0; i < in->pairs; i++) {
         if (in->settled[i] == DAWNHANGRA_YES) {
-            dawnhangra_count wrote = plain_ladder(in->session, in->settled, in->pairs, i / n, i % n, rungs, sizeof rungs);
+            dawnhangra_count wrote =
+                plain_ladder(in->session, in->settled, in->pairs, i / n, i % n, rungs, sizeof rungs);
             if (wrote.count > longest) {
                 longest = wrote.count;
                 in->lowest = i / n;
@@ -373,8 +376,10 @@ static void check_run(runner run, const struct input *in)
     if (library.reply.number || library.question.number || library.count.number) {
         fail("a call to be timed is refused");
     }
-    if (memcmp(library.table, plain.table, sizeof library.table) || memcmp(library.heads, plain.heads, sizeof library.heads) ||
-        memcmp(library.steps, plain.steps, sizeof library.steps) || memcmp(library.rungs, plain.rungs, sizeof library.rungs) ||
+    if (memcmp(library.table, plain.table, sizeof library.table) ||
+        memcmp(library.heads, plain.heads, sizeof library.heads) ||
+        memcmp(library.steps, plain.steps, sizeof library.steps) ||
+        memcmp(library.rungs, plain.rungs, sizeof library.rungs) ||
         memcmp(library.out, plain.out, sizeof library.out)) {
         fail("the bytes differ");
     }

@@ -1,5 +1,5 @@
-// The calls in plain C, to measure the library against. Written from document 01, not from the library's code: rows are worked on whole,
-// in loops that a C compiler turns into vector code.
+// The calls in plain C, to measure the library against. Written from document 01, not from the library's code: rows
+// are worked on whole, in loops that a C compiler turns into vector code.
 #include "plain.h"
 
 #include <string.h>
@@ -131,7 +131,8 @@ static void column_set(size_t n, const uint8_t *table, size_t b, uint8_t mark, u
 }
 
 // (x, y) gets the mark for every x of the one set and y of the other.
-static void mark_pairs(size_t n, uint8_t *restrict table, const uint8_t *restrict xs, const uint8_t *restrict ys, uint8_t mark)
+static void mark_pairs(
+    size_t n, uint8_t *restrict table, const uint8_t *restrict xs, const uint8_t *restrict ys, uint8_t mark)
 {
     for (size_t x = 0; x < n; x++) {
         if (xs[x]) {
@@ -179,7 +180,8 @@ static uint8_t take(dawnhangra_session *session, uint8_t *table, size_t lower, s
 }
 
 static dawnhangra_reply take_any(
-    dawnhangra_session session, uint8_t *table, size_t table_length, size_t lower, size_t upper, bool holds, bool counts)
+    dawnhangra_session session, uint8_t *table, size_t table_length, size_t lower, size_t upper, bool holds,
+    bool counts)
 {
     size_t open;
     uint8_t number = standing(session, table, table_length, &open);
@@ -308,8 +310,8 @@ static size_t find_steps(size_t n, const uint8_t *table, const uint8_t *heads, u
 }
 
 dawnhangra_count plain_hierarchy(
-    dawnhangra_session session, const uint8_t *table, size_t table_length, uint8_t *heads, size_t heads_length, uint8_t *steps,
-    size_t steps_length)
+    dawnhangra_session session, const uint8_t *table, size_t table_length, uint8_t *heads, size_t heads_length,
+    uint8_t *steps, size_t steps_length)
 {
     uint8_t found_heads[MOST], found_steps[2 * (MOST * MOST / 4)];
     size_t n = session.classes, open;

@@ -18,8 +18,8 @@ dawnhangra_reply plain_clip(
 dawnhangra_question plain_next(dawnhangra_session session, const uint8_t *table, size_t table_length);
 
 dawnhangra_count plain_hierarchy(
-    dawnhangra_session session, const uint8_t *table, size_t table_length, uint8_t *heads, size_t heads_length, uint8_t *steps,
-    size_t steps_length);
+    dawnhangra_session session, const uint8_t *table, size_t table_length, uint8_t *heads, size_t heads_length,
+    uint8_t *steps, size_t steps_length);
 
 dawnhangra_count plain_ladder(
     dawnhangra_session session, const uint8_t *table, size_t table_length, size_t lower, size_t upper, uint8_t *rungs,

@@ -1,12 +1,13 @@
 // Dawnhangra for C: which class of receiver lies under which. Link it with libdawnhangra.a, which is for x86-64.
 //
-// A buffer is lent as a pointer followed by its length in bytes. The pointer must be valid for that length, and for writing where it is not
-// const. It may be null only where the length is 0. Buffers lent to one call must not overlap. Nothing else is asked of what goes in: any
-// class count, tally, table, class number, book and length gets an answer or a refusal.
+// A buffer is lent as a pointer followed by its length in bytes. The pointer must be valid for that length, and for
+// writing where it is not const. It may be null only where the length is 0. Buffers lent to one call must not
+// overlap. Nothing else is asked of what goes in: any class count, tally, table, class number, book and length gets
+// an answer or a refusal.
 //
-// A table of n classes is n*n bytes: the mark of (a, b), "a is under b", stands at index a*n + b. Bytes behind them are neither read nor
-// written. Session and table are passed on from call to call untouched. A table that was changed in between is refused where no facts give it;
-// where some do, the calls go on from those.
+// A table of n classes is n*n bytes: the mark of (a, b), "a is under b", stands at index a*n + b. Bytes behind them
+// are neither read nor written. Session and table are passed on from call to call untouched. A table that was changed
+// in between is refused where no facts give it; where some do, the calls go on from those.
 #ifndef DAWNHANGRA_H
 #define DAWNHANGRA_H
 
@@ -28,8 +29,8 @@ enum dawnhangra_mark {
     DAWNHANGRA_NO = 2
 };
 
-// The numbers in an answer. Each call says which refusals it has, in the order in which they are looked at: the first that is due is
-// given. A refused call writes nothing, except that a refused book leaves the facts before its place.
+// The numbers in an answer. Each call says which refusals it has, in the order in which they are looked at: the first
+// that is due is given. A refused call writes nothing, except that a refused book leaves the facts before its place.
 enum dawnhangra_number {
     DAWNHANGRA_ACCEPTED = 0,
     DAWNHANGRA_BAD_COUNT = 1,      // the class count is 0 or above 128
@@ -46,7 +47,7 @@ enum dawnhangra_number {
     DAWNHANGRA_MISPLACED_TAG = 12, // the book is empty, its first field has not tag 1, or tag 1 comes again
     DAWNHANGRA_BAD_LENGTH = 13,    // a field's length is not allowed for its tag
     DAWNHANGRA_BAD_VERDICT = 14,   // an answer's verdict is neither 0 nor 1
-    DAWNHANGRA_TOO_LONG = 15       // the input is above 32,768 bytes: the printing program's alone, no call here gives it
+    DAWNHANGRA_TOO_LONG = 15       // the input is above 32,768 bytes: the printing program alone gives it
 };
 
 // The class count n, and the tally of tests.
@@ -55,7 +56,8 @@ typedef struct dawnhangra_session {
     size_t tests;
 } dawnhangra_session;
 
-// What fresh, tell, answer, clip and read give: the number, its place in the book (0 outside books and where accepted), the session to pass on.
+// What fresh, tell, answer, clip and read give: the number, its place in the book (0 outside books and where
+// accepted), the session to pass on.
 typedef struct dawnhangra_reply {
     uint8_t number;
     size_t place;
@@ -79,11 +81,12 @@ typedef struct dawnhangra_count {
     size_t count;
 } dawnhangra_count;
 
-// Starts a table: yes on the diagonal, open elsewhere, no tests. Refuses with 1, 2, and then gives a session of no classes.
+// Starts a table: yes on the diagonal, open elsewhere, no tests. Refuses with 1, 2, and then gives a session of no
+// classes.
 dawnhangra_reply dawnhangra_fresh(size_t classes, uint8_t *table, size_t table_length);
 
-// Takes a fact in: lower is under upper, or is not. All that follows from it is marked too. A fact that agrees with a mark is accepted and
-// changes nothing. Refuses with 1 to 4, 5, 6, and then gives the session back as it came.
+// Takes a fact in: lower is under upper, or is not. All that follows from it is marked too. A fact that agrees with a
+// mark is accepted and changes nothing. Refuses with 1 to 4, 5, 6, and then gives the session back as it came.
 dawnhangra_reply dawnhangra_tell(
     dawnhangra_session session, uint8_t *table, size_t table_length, size_t lower, size_t upper, bool holds);
 
@@ -91,10 +94,11 @@ dawnhangra_reply dawnhangra_tell(
 dawnhangra_reply dawnhangra_answer(
     dawnhangra_session session, uint8_t *table, size_t table_length, size_t lower, size_t upper, bool holds);
 
-// Takes in what a trial clip shows: no class that played it is under one that did not. It is as if all these noes were told one by one, but
-// where one of them is against a mark nothing changes; no test is counted. Played has a flag for each class from 0 on, set where the byte is
-// not 0: n flags, or more up to 128. Refuses with 1 to 4, 5 where there are fewer or more flags or that of a class of n or more is set, 6, and then
-// gives the session back as it came.
+// Takes in what a trial clip shows: no class that played it is under one that did not. It is as if all these noes
+// were told one by one, but where one of them is against a mark nothing changes; no test is counted. Played has a
+// flag for each class from 0 on, set where the byte is not 0: n flags, or more up to 128. Refuses with 1 to 4, 5
+// where there are fewer or more flags or that of a class of n or more is set, 6, and then gives the session back as
+// it came.
 dawnhangra_reply dawnhangra_clip(
     dawnhangra_session session, uint8_t *table, size_t table_length, const uint8_t *played, size_t played_length);
 
@@ -104,25 +108,28 @@ dawnhangra_question dawnhangra_next(dawnhangra_session session, const uint8_t *t
 // Counts the open pairs; changes nothing. Refuses with 1 to 4.
 dawnhangra_count dawnhangra_open_pairs(dawnhangra_session session, const uint8_t *table, size_t table_length);
 
-// Writes the head of each class, the lowest number of its group, and the direct steps between heads, a and b for each, ordered by a and then
-// b; counts the steps. Refuses with 1 to 4, 7, 8. Heads are n bytes; for the steps 2*(n*n/4) bytes always suffice.
+// Writes the head of each class, the lowest number of its group, and the direct steps between heads, a and b for
+// each, ordered by a and then b; counts the steps. Refuses with 1 to 4, 7, 8. Heads are n bytes; for the steps
+// 2*(n*n/4) bytes always suffice.
 dawnhangra_count dawnhangra_hierarchy(
-    dawnhangra_session session, const uint8_t *table, size_t table_length, uint8_t *heads, size_t heads_length, uint8_t *steps,
-    size_t steps_length);
+    dawnhangra_session session, const uint8_t *table, size_t table_length, uint8_t *heads, size_t heads_length,
+    uint8_t *steps, size_t steps_length);
 
-// Writes the ladder, a byte a rung: from the head of lower, each time to the lowest-numbered head directly above and under upper, up to the
-// head of upper; counts the rungs. Refuses with 1 to 4, 5, 7, 9, 8. For the rungs n bytes always suffice.
+// Writes the ladder, a byte a rung: from the head of lower, each time to the lowest-numbered head directly above and
+// under upper, up to the head of upper; counts the rungs. Refuses with 1 to 4, 5, 7, 9, 8. For the rungs n bytes
+// always suffice.
 dawnhangra_count dawnhangra_ladder(
     dawnhangra_session session, const uint8_t *table, size_t table_length, size_t lower, size_t upper, uint8_t *rungs,
     size_t rungs_length);
 
-// Reads a book on a fresh table, its facts from the left. A field may be refused with 10 (head), 11, 12, 13, 10 (contents), tag 1 then with
-// 1, 2, a fact with 14, 5, 6; the place is the index of the field's tag or of the fact's first byte, and session and table stay as they are
-// after the facts before it (no classes and an untouched table where no class count was accepted). The table takes n*n bytes.
+// Reads a book on a fresh table, its facts from the left. A field may be refused with 10 (head), 11, 12, 13, 10
+// (contents), tag 1 then with 1, 2, a fact with 14, 5, 6; the place is the index of the field's tag or of the fact's
+// first byte, and session and table stay as they are after the facts before it (no classes and an untouched table
+// where no class count was accepted). The table takes n*n bytes.
 dawnhangra_reply dawnhangra_read(const uint8_t *book, size_t book_length, uint8_t *table, size_t table_length);
 
-// Writes the book of a table: its class count, its yes pairs and its no pairs off the diagonal; counts the bytes. Refuses with 1 to 4, 8. A
-// book has 10 + 2*(n*n - n) bytes at most.
+// Writes the book of a table: its class count, its yes pairs and its no pairs off the diagonal; counts the bytes.
+// Refuses with 1 to 4, 8. A book has 10 + 2*(n*n - n) bytes at most.
 dawnhangra_count dawnhangra_write(
     dawnhangra_session session, const uint8_t *table, size_t table_length, uint8_t *out, size_t out_length);
 

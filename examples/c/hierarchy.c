@@ -1,5 +1,5 @@
-// Five classes of receivers are put in order: some facts are told, a trial clip is played, the rest is asked of a reasoner, and the order is
-// printed.
+// Five classes of receivers are put in order: some facts are told, a trial clip is played, the rest is asked of a
+// reasoner, and the order is printed.
 #include <stdio.h>
 #include <stdlib.h>
 
