@@ -1,15 +1,15 @@
 -- A climb, rung by rung: what is left above a rung, and the rung written under it.
 -- Assumes nothing.
-use mathlib.Core.Path.{_≡_, refl, sym, _∙_, ap}
-use mathlib.Core.List.{List, [], _∷_, _++_}
+use mathlib.Core.Path.{_≡_, refl}
+use mathlib.Core.List.{List, [], _∷_}
 use Prim.Native.Nat.{ℕ, _+_, _≤_, _<_}
-use native.Mathlib.Numerals.{add-one}
 use native.Mathlib.Omega.{arith}
-use lib.ListN.{length, getD, set, take, drop, take-append-drop}
-use lib.Seq.{length-take-le, take-suc, append-snoc, set-append-left, set-at}
+use lib.ListN.{length, getD, set}
 use Rattle.promise.specs.Hierarchy.{HeadOf, NextRung, Ladder}
 use Rattle.promise.proofs.Hierarchy.{head-unique}
 use Rattle.promise.proofs.Ladder.{to-go, rung-falls, head-of-equal}
+use Rattle.buffers.specs.Placed.{Placed}
+use Rattle.buffers.proofs.Placing.{placed-before, put-none, put-one}
 use Rattle.steps.specs.HeadsFound.{HeadsFound}
 use Rattle.hierarchy.specs.Climb.{BelowGoal, Reached, Climbed}
 
@@ -19,7 +19,7 @@ pub record Beyond (n : ℕ) (t : List ℕ) (goal rung before : ℕ) (out : List 
   pub ladder : Ladder n t goal rung (rung ∷ later)
   pub counted : count ≡ before + 1 + length later
   pub size : length out₁ ≡ length out
-  pub written : count ≤ length out → out₁ ≡ take (before + 1) out ++ (later ++ drop count out)
+  pub written : count ≤ length out → Placed later (before + 1) out out₁
   pub unwritten : length out < count → out₁ ≡ out
 
 module _ {n : ℕ} {t : List ℕ} {goal rung before : ℕ} {out : List ℕ} where
@@ -31,7 +31,7 @@ module _ {n : ℕ} {t : List ℕ} {goal rung before : ℕ} {out : List ℕ} wher
         ladder = Ladder.end h;
         counted = omega arith;
         size = refl;
-        written = λ _. sym (take-append-drop (before + 1) out);
+        written = λ room. put-none room .placed;
         unwritten = λ _. refl;
       }
 
@@ -51,20 +51,10 @@ module _ {n : ℕ} {t : List ℕ} {goal rung before : ℕ} {out : List ℕ} wher
 
   module _ {count : ℕ} {out₁ : List ℕ} (h : Beyond n t goal rung before out count out₁) where
     -- the rung fits under what stands above it
-    under-written : count ≤ length out → set out₁ before rung ≡ take before out ++ (rung ∷ h .later ++ drop count out)
+    under-written : count ≤ length out → Placed (rung ∷ h .later) before out (set out₁ before rung)
     under-written room =
-        let below : before < length out = omega (arith, h .counted) in
-        let rest = h .later ++ drop count out in
-        let front : take (before + 1) out ≡ take before out ++ getD out before 0 ∷ [] =
-        ap (λ (k : ℕ). take k out) (add-one before) ∙ take-suc out before 0 below
-        in
-        ap (λ (u : List ℕ). set u before rung) (h .written room)
-        ∙ set-append-left (take (before + 1) out) rest before rung
-        (omega (arith, length-take-le (before + 1) out (omega arith)))
-        ∙ ap (λ (u : List ℕ). set u before rung ++ rest) front
-        ∙ ap (λ (u : List ℕ). u ++ rest)
-        (set-at (take before out) (getD out before 0) [] rung before (length-take-le before out (omega arith)))
-        ∙ append-snoc (take before out) rung rest
+        placed-before refl (omega (arith, h .counted)) (h .written room)
+        (put-one rung (omega (arith, h .counted, h .size)) .placed)
 
     pub climbed : count ≤ length out₁ → Climbed n t goal rung before out count (set out₁ before rung)
     climbed room =

@@ -2,7 +2,7 @@
 -- Assumes nothing.
 use mathlib.Core.Path.{_≡_, refl, _∙_, ap}
 use mathlib.Core.Logic.{_≢_, _⊎_, inl, inr, ⊎-elim}
-use mathlib.Core.List.{List, [], _++_}
+use mathlib.Core.List.{List, []}
 use Prim.Native.Nat.{ℕ, _*_, _≤_, _<_}
 use native.Mathlib.Omega.{arith}
 use lib.ListN.{length, getD, take, drop}
@@ -109,7 +109,7 @@ module _
     pub ladder-done : count ≤ length out′ → Owed (ladderLeft n t a b out) (Count count, out′)
     ladder-done room =
         owed-done (ladderLeft n t a b out) (inr (fits, refl)) refl
-        (k .rungs, from-start, rw (k .written (omega arith), all) refl)
+        (k .rungs, from-start, rw (k .written (omega arith) .bytes, all) refl)
       where
         all : count ≡ length (k .rungs)
         all = omega (arith, k .counted)

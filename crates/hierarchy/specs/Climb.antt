@@ -1,10 +1,11 @@
 -- A climb, rung by rung: what it needs and what it leaves.
 -- Assumes nothing.
 use mathlib.Core.Path.{_≡_}
-use mathlib.Core.List.{List, _++_}
+use mathlib.Core.List.{List}
 use Prim.Native.Nat.{ℕ, _+_, _≤_, _<_}
-use lib.ListN.{length, take, drop}
+use lib.ListN.{length}
 use Rattle.promise.specs.Hierarchy.{Under, Head, Ladder, Above, Number}
+use Rattle.buffers.specs.Placed.{Placed}
 
 -- rung is a head under the goal, but not the goal's own head
 pub record BelowGoal (n : ℕ) (t : List ℕ) (goal rung : ℕ) : Type 0 where
@@ -29,5 +30,5 @@ pub record Climbed (n : ℕ) (t : List ℕ) (goal rung before : ℕ) (out : List
   pub rungs : List ℕ
   pub ladder : Ladder n t goal rung rungs
   pub counted : count ≡ before + length rungs
-  pub written : count ≤ length out → out′ ≡ take before out ++ (rungs ++ drop count out)
+  pub written : count ≤ length out → Placed rungs before out out′
   pub unwritten : length out < count → out′ ≡ out

@@ -12,7 +12,7 @@ use Rattle.promise.proofs.Refusals.{first-unique}
 use Rattle.order.proofs.Bytes.{same-list, rest-sym, rest-trans}
 use Rattle.promise.specs.declared.Session.{Session}
 use Rattle.promise.specs.declared.Reply.{Reply}
-use Rattle.promise.specs.Calls.{accepted, Call, Owed, Changed, changes, crossing}
+use Rattle.promise.specs.Calls.{accepted, Call, Owed, changes, crossing}
 
 -- what success leaves is fixed
 abbrev pub Fixed : {O : Type 0} → Call O → Type 0

@@ -1,13 +1,12 @@
 -- Calls that count: two outcomes for one input are equal, there is one, and a buffer keeps its length, given that
 -- what is to be written is fixed and there.
 -- Assumes nothing.
-use mathlib.Core.Path.{_≡_, refl, sym, _∙_, ap, ap₂, subst}
-use mathlib.Core.List.{List, [], _∷_, _++_, append-assoc}
-use Prim.Native.Nat.{ℕ, suc, _+_, _≤_, _<_}
+use mathlib.Core.Path.{_≡_, refl, sym, _∙_, ap, subst}
+use mathlib.Core.List.{List, [], _∷_, _++_}
+use Prim.Native.Nat.{ℕ, _+_, _≤_, _<_}
 use native.Mathlib.Decide.{ℕ-discrete, decLt}
 use native.Mathlib.Omega.{arith}
-use lib.ListN.{length, getD, set, take, drop, length-append, length-drop}
-use lib.Seq.{drop-cons, append-snoc, drop-append-add, drop-drop, set-at, take-at}
+use lib.ListN.{length, drop, length-append, length-drop}
 use Rattle.order.specs.Tables.{opens}
 use Rattle.promise.specs.Refusals.{Condition, First}
 use Rattle.promise.specs.declared.Session.{Session}
@@ -28,30 +27,6 @@ over-length P w out p room = go (decLt (length out) (length w))
     go : Dec (length out < length w) → length (over w out) ≡ length out
     go (yes h) = absurd (room (w, p, h))
     go (no h) = over-fits w out (omega arith)
-
--- one byte more stands right behind those written
-pub over-more :
-    (w out : List ℕ) (i x : ℕ) → length w ≡ i → i < length out → set (over w out) i x ≡ over (w ++ x ∷ []) out
-over-more w out i x e h =
-    let more : suc (length w) ≡ length (w ++ x ∷ []) = omega (arith, length-append w (x ∷ [])) in
-    ap (λ (u : List ℕ). set (w ++ u) i x) (drop-cons out (length w) 0 (omega arith))
-    ∙ set-at w (getD out (length w) 0) (drop (suc (length w)) out) x i e
-    ∙ sym (append-snoc w x (drop (suc (length w)) out))
-    ∙ ap (λ (k : ℕ). w ++ (x ∷ []) ++ drop k out) more
-
--- and so do more bytes
-pub over-append :
-    (w x out : List ℕ) (i : ℕ) → length w ≡ i
-    → take i (over w out) ++ (x ++ drop (i + length x) (over w out)) ≡ over (w ++ x) out
-over-append w x out i e =
-    let rest = drop (length w) out in
-    let behind : drop (i + length x) (over w out) ≡ drop (length (w ++ x)) out =
-    ap (λ (k : ℕ). drop (k + length x) (over w out)) (sym e)
-    ∙ drop-append-add w rest (length x)
-    ∙ drop-drop (length x) (length w) out
-    ∙ ap (λ (k : ℕ). drop k out) (sym (length-append w x))
-    in
-    ap₂ (λ (u v : List ℕ). u ++ (x ++ v)) (take-at w rest i e) behind ∙ sym (append-assoc w x (drop (length (w ++ x)) out))
 
 -- an empty part of a buffer is lent, so nothing is written
 pub lent-none : (l out : List ℕ) → length l ≡ 0 → l ++ out ≡ out

@@ -15,7 +15,7 @@ use Rattle.promise.specs.declared.Session.{Session}
 use Rattle.promise.specs.declared.Reply.{Reply}
 use Rattle.promise.specs.declared.Question.the-variants.{Ask, Done}
 use Rattle.promise.specs.declared.Counted.the-variants.{Count}
-use Rattle.promise.specs.Calls.{started, Call, Owed, countNumber, openPairs}
+use Rattle.promise.specs.Calls.{Call, Owed, countNumber, openPairs}
 use Rattle.promise.specs.Tell.{Kind, fresh, tell}
 use Rattle.promise.specs.Clips.{ClipNo, clip}
 use Rattle.promise.specs.Next.{next}

@@ -5,7 +5,6 @@ use mathlib.Core.List.{[]}
 use Prim.Native.Nat.{ℕ}
 use Rattle.promise.specs.Refusals.{First, standing}
 use Rattle.promise.specs.Calls.{openPairs}
-use Rattle.promise.specs.declared.Counted.the-variants.{Count}
 use Rattle.promise.proofs.Standing.{stood}
 use Rattle.promise.proofs.Calls.{owed-refused, owed-done}
 use Rattle.marks.proofs.Shape.{shaped}
