@@ -98,7 +98,7 @@ static uint8_t standing(dawnhangra_session session, const uint8_t *table, size_t
 
 dawnhangra_reply plain_fresh(size_t classes, uint8_t *table, size_t table_length)
 {
-    dawnhangra_session none = {0, 0};
+    dawnhangra_session none = {0};
     if (classes == 0 || classes > MOST) {
         return replied(DAWNHANGRA_BAD_COUNT, 0, none);
     }
@@ -109,7 +109,7 @@ dawnhangra_reply plain_fresh(size_t classes, uint8_t *table, size_t table_length
     for (size_t a = 0; a < classes; a++) {
         table[a * classes + a] = YES;
     }
-    dawnhangra_session session = {classes, 0};
+    dawnhangra_session session = {.classes = classes};
     return replied(DAWNHANGRA_ACCEPTED, 0, session);
 }
 
@@ -394,7 +394,7 @@ dawnhangra_count plain_ladder(
 
 dawnhangra_reply plain_read(const uint8_t *book, size_t book_length, uint8_t *table, size_t table_length)
 {
-    dawnhangra_session session = {0, 0};
+    dawnhangra_session session = {0};
     if (book_length == 0) {
         return replied(DAWNHANGRA_MISPLACED_TAG, 0, session);
     }

@@ -67,7 +67,8 @@ module _ {n : ℕ} {t : List ℕ} {tag m : ℕ} {out : List ℕ} {at : ℕ} (fit
 
 -- the three fields
 
-module _ {n : ℕ} {t : List ℕ} {ys zs : List Pair} (yes-listed : PairsMarked n t 1 ys) (no-listed : PairsMarked n t 2 zs) where
+module _ {n : ℕ} {t : List ℕ} {ys zs : List Pair} (yes-listed : PairsMarked n t 1 ys)
+    (no-listed : PairsMarked n t 2 zs) where
   pub book-of : BookOf n t (field 1 (n ∷ []) ++ (field 2 (bytesOf ys) ++ field 3 (bytesOf zs)))
   book-of =
       record { yes-pairs = ys; no-pairs = zs; yes-listed = yes-listed; no-listed = no-listed; bytes = refl }
@@ -131,7 +132,8 @@ module _
     pub book-short : (out : List ℕ) → length out < 10 + 2 * (yes + no) → Owed (writeLeft n t out) (Refused 8 0, out)
     book-short out short =
         let book = book-of (ys .1) (zs .1) in
-        owed-refused (writeLeft n t out) (λ k. refl) (inl ((_, book, omega (arith, counted _ book)), refl)) (λ e. omega arith)
+        owed-refused (writeLeft n t out) (λ k. refl) (inl ((_, book, omega (arith, counted _ book)), refl))
+        (λ e. omega arith)
 
     pub book-fits : (out : List ℕ) → Shape n t → 10 + 2 * (yes + no) ≤ length out → BookFits n t out
     book-fits out shape room =

@@ -39,7 +39,8 @@ pub record SoFar
 
 -- what leads from the start of row a to column b, whatever was noted before
 pub record Along
-    (P : ℕ → ℕ → Type 0) (dec : (a b : ℕ) → Dec (P a b)) (n a : ℕ) (out₁ : List ℕ) (count₁ : ℕ) (out₂ : List ℕ) (count₂ b : ℕ)
+    (P : ℕ → ℕ → Type 0) (dec : (a b : ℕ) → Dec (P a b)) (n a : ℕ) (out₁ : List ℕ) (count₁ : ℕ) (out₂ : List ℕ)
+    (count₂ b : ℕ)
     : Type 0 where
   pub carry : (out : List ℕ) → SoFar P dec n out count₁ out₁ a 0 → SoFar P dec n out count₂ out₂ a b
 

@@ -59,7 +59,8 @@ all-agree {n} {t} {played} h c =
     q .2 .2 .0 .1 (h (q .0) (q .1) (q .2 .2 .0 .0) .at (q .2 .0) (q .2 .1) (q .2 .2 .1))
 
 pub one-agrees :
-    {n : ℕ} {t : List ℕ} {played : List Bool} {a : ℕ} → ¬ SomeContradicts n t (ClipNo n played) → a < n → Flagged played a
+    {n : ℕ} {t : List ℕ} {played : List Bool} {a : ℕ} → ¬ SomeContradicts n t (ClipNo n played) → a < n
+    → Flagged played a
     → UnderMembers n t played a
 one-agrees {n} {t} {played} none ha p =
     record { at = λ b hb m. stable (flagged? played b) (λ q. none (contrary n played t ha hb ((p, q), m))) }

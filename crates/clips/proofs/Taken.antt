@@ -19,7 +19,8 @@ module _ {s : Session} {t : List ℕ} {played : List Bool} (st : Stands s t) whe
   -- 5: a class of n or more played
   pub clip-beyond : MemberBeyond (s .classes) played → Owed (clip s t played) (refusal 5 s, t)
   clip-beyond b =
-      owed-refused (clip s t played) (λ k. refl) (first-stands (clipRefusals s t played) st (inl (b, refl))) (λ z. omega arith)
+      owed-refused (clip s t played) (λ k. refl) (first-stands (clipRefusals s t played) st (inl (b, refl)))
+      (λ z. omega arith)
 
   module _ (inside : ¬ MemberBeyond (s .classes) played) where
     -- 6: one of the noes contradicts
@@ -33,7 +34,8 @@ module _ {s : Session} {t : List ℕ} {played : List Bool} (st : Stands s t) whe
     pub clip-taken :
         {others : List Bool} {t′ : List ℕ} → ¬ SomeContradicts (s .classes) t (ClipNo (s .classes) played)
         → FlagsOf (s .classes) (λ x. ¬ Flagged played x) others
-        → Spread (s .classes) (λ a b. Flagged played a × Flagged others b) 2 t t′ → Owed (clip s t played) (accepted s, t′)
+        → Spread (s .classes) (λ a b. Flagged played a × Flagged others b) 2 t t′
+        → Owed (clip s t played) (accepted s, t′)
     clip-taken {others} {t′} fine flags h =
         owed-done (clip s t played) (first-stands (clipRefusals s t played) st (inr (inside, inr (fine, refl)))) refl
         (record {
@@ -47,7 +49,8 @@ module _ {s : Session} {t : List ℕ} {played : List Bool} (st : Stands s t) whe
 
         settled :
             (x y : ℕ) → x < n → y < n → Becomes (Flagged played x × Flagged others y) 2 (mark n t x y) (mark n t′ x y)
-            → Settles (mark n t′ x y) (mark n t x y ≡ 1) ((mark n t x y ≡ 2) ⊎ (Flagged played x × (¬ Flagged played y)))
+            → Settles (mark n t′ x y) (mark n t x y ≡ 1)
+            ((mark n t x y ≡ 2) ⊎ (Flagged played x × (¬ Flagged played y)))
         settled x y hx hy (inl (p, e)) =
             let q : Flagged played x × (¬ Flagged played y) = (p .0, flags .at y hy .0 (p .1)) in
             record {

@@ -58,8 +58,10 @@ module _ {n : ℕ} {t heads steps : List ℕ} where
 
   pub hierarchy-done :
       {found heads′ out listed steps′ : List ℕ} {count : ℕ} → HeadsFound n t found → n ≤ length heads
-      → heads′ ≡ over (take n found) heads → length out ≡ 8192 → StepsNoted n t out count listed → 2 * count ≤ length steps
-      → steps′ ≡ over (take (2 * count) listed) steps → Owed (hierarchyLeft n t heads steps) (Count count, (heads′, steps′))
+      → heads′ ≡ over (take n found) heads → length out ≡ 8192 → StepsNoted n t out count listed
+      → 2 * count ≤ length steps
+      → steps′ ≡ over (take (2 * count) listed) steps
+      → Owed (hierarchyLeft n t heads steps) (Count count, (heads′, steps′))
   hierarchy-done {found} {heads′} {out} {listed} {steps′} {count} f many heads-written size (l, p, noted) room written =
       owed-done (hierarchyLeft n t heads steps) (inr (fits, refl)) refl
       (take n found, l, heads-of f, p, rw (heads-written, written, front, noted .counted) refl)
@@ -69,7 +71,8 @@ module _ {n : ℕ} {t heads steps : List ℕ} where
 
       front : take (2 * count) listed ≡ bytesOf l
       front =
-          ap (λ (u : List ℕ). take (2 * count) u) (noted .written (omega (arith, all, size, steps-fit (f .table) (l, p, noted))) .bytes)
+          ap (λ (u : List ℕ). take (2 * count) u)
+          (noted .written (omega (arith, all, size, steps-fit (f .table) (l, p, noted))) .bytes)
           ∙ take-at (bytesOf l) (drop (length (bytesOf l)) out) (2 * count) all
 
       fits : ¬ (TooShort (HeadsOf n t) heads ⊎ TooShort (StepBytes n t) steps)
@@ -103,7 +106,8 @@ module _
     pub ladder-short : length out′ < count → Owed (ladderLeft n t a b out) (Refused 8 0, out′)
     ladder-short short =
         rw (k .unwritten (omega arith))
-        (owed-refused (ladderLeft n t a b out) (λ k. refl) (inl ((k .rungs, from-start, omega (arith, k .counted)), refl))
+        (owed-refused (ladderLeft n t a b out) (λ k. refl)
+        (inl ((k .rungs, from-start, omega (arith, k .counted)), refl))
         (λ e. omega arith))
 
     pub ladder-done : count ≤ length out′ → Owed (ladderLeft n t a b out) (Count count, out′)
@@ -128,7 +132,8 @@ module _ (s : Session) (t heads steps : List ℕ) where
   pub hierarchy-standing :
       (k : ℕ) → First (standing s t []) k → k ≢ 0 → Owed (hierarchy s t heads steps) (Refused k 0, (heads, steps))
   hierarchy-standing k f e =
-      owed-refused (hierarchy s t heads steps) (λ k. refl) (standing-refused (hierarchyRefusals s t heads steps) s t k f e) e
+      owed-refused (hierarchy s t heads steps) (λ k. refl)
+      (standing-refused (hierarchyRefusals s t heads steps) s t k f e) e
 
   pub hierarchy-open :
       Stands s t → opens (s .classes) t ≢ 0 → Owed (hierarchy s t heads steps) (Refused 7 0, (heads, steps))
@@ -148,7 +153,8 @@ module _ (s : Session) (t : List ℕ) (a b : ℕ) (out : List ℕ) where
   ladder-standing k f e =
       owed-refused (ladder s t a b out) (λ k. refl) (standing-refused (ladderRefusals s t a b out) s t k f e) e
 
-  ladder-own : {k : ℕ} → Stands s t → First (ladderRefusals s t a b out) k → k ≢ 0 → Owed (ladder s t a b out) (Refused k 0, out)
+  ladder-own : {k : ℕ} → Stands s t → First (ladderRefusals s t a b out) k → k ≢ 0
+      → Owed (ladder s t a b out) (Refused k 0, out)
   ladder-own st f e =
       owed-refused (ladder s t a b out) (λ k. refl) (first-stands (ladderRefusals s t a b out) st f) e
 

@@ -90,7 +90,8 @@ module _ {s : Session} {t heads steps text : List ℕ} {at : ℕ} (ready : Settl
           (stands-first (hierarchyRefusals s t heads steps) stands (r .number))
         where
           refused :
-              {place : ℕ} → Owed (hierarchy s t heads steps) (Counted.Refused number place, (heads′, steps′)) → number ≢ 0
+              {place : ℕ} → Owed (hierarchy s t heads steps) (Counted.Refused number place, (heads′, steps′))
+              → number ≢ 0
           refused r z =
               let d = r .done z in
               let same = ap (λ (o : Counted × (List ℕ × List ℕ)). o .0) (d .4) in
@@ -182,7 +183,8 @@ reported-refused refused h =
 
 -- the lines of an accepted book whose table has no open pair
 pub reported-settled :
-    {r : Reply} {t text text₁ text₂ : List ℕ} {count behind end : ℕ} → r .number ≡ 0 → count ≡ opens (r .session .classes) t
+    {r : Reply} {t text text₁ text₂ : List ℕ} {count behind end : ℕ} → r .number ≡ 0
+    → count ≡ opens (r .session .classes) t
     → count ≡ 0 → Put (countsLine (r .session .classes) (r .session .tests) count) 0 text behind text₁
     → SettledPut (r .session .classes) t behind text₁ end text₂ → Reported r t text end text₂
 reported-settled accepted same none counts settled =
@@ -198,7 +200,8 @@ reported-settled accepted same none counts settled =
 
 -- the lines of an accepted book whose table has one
 pub reported-open :
-    {r : Reply} {t text text₁ text₂ : List ℕ} {count behind end : ℕ} → r .number ≡ 0 → count ≡ opens (r .session .classes) t
+    {r : Reply} {t text text₁ text₂ : List ℕ} {count behind end : ℕ} → r .number ≡ 0
+    → count ≡ opens (r .session .classes) t
     → Put (countsLine (r .session .classes) (r .session .tests) count) 0 text behind text₁
     → QuestionPut (r .session .classes) t behind text₁ end text₂ → Reported r t text end text₂
 reported-open accepted same counts question =

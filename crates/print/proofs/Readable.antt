@@ -28,11 +28,13 @@ few-classes {book} {t} {r} {t′} h = go (read-run h)
     go (ReadAs.cut k run stop) = standing-passed [] (fresh-run-stands run .stands) .0 .few
 
 pub few-marks :
-    {book t : List ℕ} {r : Reply} {t′ : List ℕ} → BookRead book t r t′ → r .session .classes * r .session .classes ≤ 16384
+    {book t : List ℕ} {r : Reply} {t′ : List ℕ} → BookRead book t r t′
+    → r .session .classes * r .session .classes ≤ 16384
 few-marks {r = r} h = square (r .session .classes) (few-classes h)
 
 -- the table of an accepted book stands
-accepted-stands : {book t : List ℕ} {r : Reply} {t′ : List ℕ} → r .number ≡ 0 → BookRead book t r t′ → Stands (r .session) t′
+accepted-stands : {book t : List ℕ} {r : Reply} {t′ : List ℕ} → r .number ≡ 0 → BookRead book t r t′
+    → Stands (r .session) t′
 accepted-stands {book} {t} {r} {t′} accepted h = go (read-run h)
   where
     go : ReadAs book t r t′ → Stands (r .session) t′

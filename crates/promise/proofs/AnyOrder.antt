@@ -21,7 +21,8 @@ use Rattle.promise.proofs.Taking.{leaves-stands}
 use Rattle.promise.proofs.Runs.{intake-leaves, intake-contradicted, run-stands, run-tests, run-rest}
 
 -- where all were accepted, the facts accepted are those said
-pub accepted-said : (n : ℕ) (made : List Made) → AllAccepted made → (f : Fact) → Accepted n made f ↔ Said n (callsOf made) f
+pub accepted-said : (n : ℕ) (made : List Made) → AllAccepted made → (f : Fact)
+    → Accepted n made f ↔ Said n (callsOf made) f
 accepted-said n [] all f = (λ i. i, λ i. i)
 accepted-said n (m ∷ later) all f =
     let q = accepted-said n later (all .1) f in
@@ -50,7 +51,8 @@ possible-accepted :
     {n : ℕ} (S : Facts) {s s′ : Session} {t t′ : List ℕ} {made : List Made} → s .classes ≡ n → StandsFor S s t
     → AllFit n (callsOf made) → Run s t made s′ t′ → ¬ Impossible n (S and Said n (callsOf made)) → AllAccepted made
 possible-accepted S c st fit Run.stop possible = tt
-possible-accepted {n} S {s} {s′} {t} {t′} c st fit (Run.call {m = m} {later = later} {t₁ = t₁} {r = r} h e run) possible =
+possible-accepted {n} S {s} {s′} {t} {t′} c st fit (Run.call {m = m} {later = later} {t₁ = t₁} {r = r} h e run)
+    possible =
     let l = intake-leaves (m .call) s t h first in (
       sym e ∙ first,
       possible-accepted (S and SaidBy n (m .call)) (l .classes ∙ c)
@@ -96,7 +98,8 @@ module _
 
 -- two runs that say the same facts: both are accepted whole or neither is, and accepted they leave the same table
 pub runs-same :
-    {n : ℕ} (S : Facts) {s s₁ s₂ : Session} {t t₁ t₂ : List ℕ} {made made₂ : List Made} → s .classes ≡ n → StandsFor S s t
+    {n : ℕ} (S : Facts) {s s₁ s₂ : Session} {t t₁ t₂ : List ℕ} {made made₂ : List Made} → s .classes ≡ n
+    → StandsFor S s t
     → AllFit n (callsOf made) → AllFit n (callsOf made₂) → Run s t made s₁ t₁ → Run s t made₂ s₂ t₂
     → ((f : Fact) → Said n (callsOf made) f ↔ Said n (callsOf made₂) f)
     → (AllAccepted made ↔ AllAccepted made₂) × (AllAccepted made → t₁ ≡ t₂)

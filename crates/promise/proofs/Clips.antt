@@ -85,7 +85,8 @@ module _ (n : ℕ) (played : List Bool) where
 
 -- A clip that does not contradict marks the pairs of a member and a non-member, and settles no other: what a member
 -- is under is a member, so that its noes spread no further.
-module _ {n : ℕ} {t : List ℕ} {played : List Bool} (sound : Sound n t) (fine : ¬ SomeContradicts n t (ClipNo n played)) where
+module _ {n : ℕ} {t : List ℕ} {played : List Bool} (sound : Sound n t)
+    (fine : ¬ SomeContradicts n t (ClipNo n played)) where
   clip-spreads :
       (x y : ℕ) → x < n → y < n → Spreads (Marks n t) (ClipNo n played) x y ↔ (Flagged played x × (¬ Flagged played y))
   clip-spreads x y hx hy = (there, back)
@@ -97,9 +98,11 @@ module _ {n : ℕ} {t : List ℕ} {played : List Bool} (sound : Sound n t) (fine
       there h =
           let no-fact = h .fact in (
             stable (flagged? played x) (λ q.
-                fine (contrary n played t (no-fact .below .lower-below) hx ((no-fact .member, q), marked (h .c) x (no-fact .below .lower-below) hx (h .from)))),
+                fine (contrary n played t (no-fact .below .lower-below) hx
+                ((no-fact .member, q), marked (h .c) x (no-fact .below .lower-below) hx (h .from)))),
             λ p.
-                fine (contrary n played t hy (no-fact .below .upper-below) ((p, no-fact .non-member), marked y (h .d) hy (no-fact .below .upper-below) (h .to))),
+                fine (contrary n played t hy (no-fact .below .upper-below)
+                ((p, no-fact .non-member), marked y (h .d) hy (no-fact .below .upper-below) (h .to))),
           )
 
       back : Flagged played x × (¬ Flagged played y) → Spreads (Marks n t) (ClipNo n played) x y
@@ -131,14 +134,16 @@ module _ (n : ℕ) (t : List ℕ) (played : List Bool) where
   clippedMark x y = choose (is n t 1 x y) (clipped-no? x y)
 
   pub clipped-table :
-      Sound n t → ¬ SomeContradicts n t (ClipNo n played) → TableOf n (Marks n t and ClipNo n played) (laid n clippedMark)
+      Sound n t → ¬ SomeContradicts n t (ClipNo n played)
+      → TableOf n (Marks n t and ClipNo n played) (laid n clippedMark)
   clipped-table sound fine =
       clip-step sound fine (λ x y hx hy.
       rw (mark-laid n clippedMark x y hx hy)
       (chosen (is n t 1 x y) (clipped-no? x y) (λ p q. never x y hx hy p q)))
     where
       never :
-          (x y : ℕ) → x < n → y < n → mark n t x y ≡ 1 → (mark n t x y ≡ 2) ⊎ (Flagged played x × (¬ Flagged played y)) → ⊥
+          (x y : ℕ) → x < n → y < n → mark n t x y ≡ 1 → (mark n t x y ≡ 2)
+          ⊎ (Flagged played x × (¬ Flagged played y)) → ⊥
       never x y hx hy p (inl q) = omega arith
       never x y hx hy p (inr q) = fine (contrary n played t hx hy (q, p))
 
@@ -154,12 +159,14 @@ clip-unique = changes-unique (λ u v. table-unique)
 -- what is known of an accepted clip
 pub clip-passed :
     (s : Session) (t : List ℕ) (played : List Bool) → First (standing s t (clipRefusals s t played)) 0
-    → Stands s t × (¬ MemberBeyond (s .classes) played) × (¬ SomeContradicts (s .classes) t (ClipNo (s .classes) played))
+    → Stands s t × (¬ MemberBeyond (s .classes) played)
+    × (¬ SomeContradicts (s .classes) t (ClipNo (s .classes) played))
 clip-passed s t played h = let p = standing-passed (clipRefusals s t played) h in own (p .0) (p .1)
   where
     own :
         Stands s t → First (clipRefusals s t played) 0
-        → Stands s t × (¬ MemberBeyond (s .classes) played) × (¬ SomeContradicts (s .classes) t (ClipNo (s .classes) played))
+        → Stands s t × (¬ MemberBeyond (s .classes) played)
+        × (¬ SomeContradicts (s .classes) t (ClipNo (s .classes) played))
     own st (inl z) = absurd (omega (arith, z .1))
     own st (inr (_, inl z)) = absurd (omega (arith, z .1))
     own st (inr (p, inr (q, _))) = (st, p, q)
@@ -194,7 +201,8 @@ clip-there s t played =
 
 -- what an accepted clip leaves: no test is counted
 pub clip-leaves :
-    {s : Session} {t : List ℕ} {played : List Bool} {r : Reply} {t′ : List ℕ} → Owed (clip s t played) (r, t′) → r .number ≡ 0
+    {s : Session} {t : List ℕ} {played : List Bool} {r : Reply} {t′ : List ℕ} → Owed (clip s t played) (r, t′)
+    → r .number ≡ 0
     → Leaves (ClipNo (s .classes) played) s t (r .session) t′
 clip-leaves {s} {t} {played} {r} {t′} h e =
     let p = clip-passed s t played (rw e at (h .number)) in
@@ -209,7 +217,8 @@ clip-leaves {s} {t} {played} {r} {t′} h e =
 
 -- "Clips aren't counted as tests": accepted or refused, the session stays what it is
 pub clip-session :
-    {s : Session} {t : List ℕ} {played : List Bool} {r : Reply} {t′ : List ℕ} → Owed (clip s t played) (r, t′) → r .session ≡ s
+    {s : Session} {t : List ℕ} {played : List Bool} {r : Reply} {t′ : List ℕ} → Owed (clip s t played) (r, t′)
+    → r .session ≡ s
 clip-session {s = s} {r = r} h = go (ℕ-discrete (r .number) 0)
   where
     go : Dec (r .number ≡ 0) → r .session ≡ s
@@ -238,7 +247,8 @@ clip-refused {S} {s} {t} {played} {r} st b h = go (stands-first (clipRefusals s 
     n = s .classes
 
     exact : SomeContradicts n t (ClipNo n played) ↔ Impossible n (S and ClipNo n played)
-    exact = noes-exact (st .within) (st .table) (clip-noes n played) (clip-within n played) (clip-contradicts? n played t)
+    exact = noes-exact (st .within) (st .table) (clip-noes n played) (clip-within n played)
+        (clip-contradicts? n played t)
 
     go :
         First (clipRefusals s t played) (r .number)
@@ -290,7 +300,8 @@ clip-same-members {s} {t} played other {r} same h =
     against p q e c = record { fact = c .fact; said = clip-subset p q e n (c .fact) (c .said); against = c .against }
 
     more :
-        (p q : List Bool) → ((a : ℕ) → Flagged p a ↔ Flagged q a) → (Marks n t and ClipNo n p) ⊆ (Marks n t and ClipNo n q)
+        (p q : List Bool) → ((a : ℕ) → Flagged p a ↔ Flagged q a)
+        → (Marks n t and ClipNo n p) ⊆ (Marks n t and ClipNo n q)
     more p q e f (inl i) = inl i
     more p q e f (inr i) = inr (clip-subset p q e n f i)
 
@@ -304,7 +315,8 @@ clip-same-members {s} {t} played other {r} same h =
 -- a clip whose noes are all marked already is accepted and changes nothing
 pub clip-agreeing :
     {s : Session} {t : List ℕ} {played : List Bool} {r : Reply} {t′ : List ℕ} → First (standing s t []) 0
-    → ¬ MemberBeyond (s .classes) played → ClipNo (s .classes) played ⊆ Marks (s .classes) t → Owed (clip s t played) (r, t′)
+    → ¬ MemberBeyond (s .classes) played → ClipNo (s .classes) played ⊆ Marks (s .classes) t
+    → Owed (clip s t played) (r, t′)
     → _≡_ {A = Reply × List ℕ} (r, t′) (accepted s, t)
 clip-agreeing {s} {t} {played} stands b marked h = clip-unique h agrees
   where
@@ -345,7 +357,8 @@ clip-again {s} {t} {played} {r} {t′} {o} h e again =
     first : r ≡ accepted (r .session)
     first = h .done e .reply ∙ ap accepted (sym (clip-session h))
 
-    passed : Stands s t × (¬ MemberBeyond (s .classes) played) × (¬ SomeContradicts (s .classes) t (ClipNo (s .classes) played))
+    passed : Stands s t × (¬ MemberBeyond (s .classes) played)
+        × (¬ SomeContradicts (s .classes) t (ClipNo (s .classes) played))
     passed = clip-passed s t played (rw e at (h .number))
 
     marked : ClipNo (s .classes) played ⊆ Marks (s .classes) t′
@@ -362,7 +375,8 @@ clip-of-none stands none =
 -- the clip that all n classes played
 pub clip-of-all :
     {s : Session} {t : List ℕ} {played : List Bool} {r : Reply} {t′ : List ℕ} → First (standing s t []) 0
-    → ((a : ℕ) → Flagged played a ↔ (a < s .classes)) → Owed (clip s t played) (r, t′) → _≡_ {A = Reply × List ℕ} (r, t′) (accepted s, t)
+    → ((a : ℕ) → Flagged played a ↔ (a < s .classes)) → Owed (clip s t played) (r, t′)
+    → _≡_ {A = Reply × List ℕ} (r, t′) (accepted s, t)
 clip-of-all stands all =
     clip-agreeing stands (λ b. let l = all (b .class) .0 (b .member) in omega (arith, b .beyond))
     (λ f h. absurd (h .non-member (all (f .upper) .1 (h .below .upper-below))))
@@ -394,9 +408,11 @@ bytes-fit s t bytes st fit h =
 
 -- where they do not, 5
 pub bytes-misfit :
-    (s : Session) (t bytes : List ℕ) → Stands s t → ¬ FlagsFit (s .classes) bytes → Owed (clipBytes s t bytes) (refusal 5 s, t)
+    (s : Session) (t bytes : List ℕ) → Stands s t → ¬ FlagsFit (s .classes) bytes
+    → Owed (clipBytes s t bytes) (refusal 5 s, t)
 bytes-misfit s t bytes st fit =
-    owed-refused (clipBytes s t bytes) (λ k. refl) (first-stands (bytesRefusals s t bytes) st (inl (fit, refl))) (λ z. omega arith)
+    owed-refused (clipBytes s t bytes) (λ k. refl) (first-stands (bytesRefusals s t bytes) st (inl (fit, refl)))
+    (λ z. omega arith)
 
 unfoldable pub bytes-there : (s : Session) (t bytes : List ℕ) → (o : Reply × List ℕ) × Owed (clipBytes s t bytes) o
 bytes-there s t bytes = start (standing-there [] s t (λ st. (0, refl)))

@@ -65,7 +65,8 @@ module _ (refusals : List Condition) (P : List ℕ → Type 0) (out : List ℕ) 
       go : Dec (countNumber (o .0) ≡ 0) → length (o .1) ≡ length out
       go (yes e) =
           let d = h .done e in
-          ap (λ (x : Counted × List ℕ). length (x .1)) (d .2) ∙ over-length P (d .0) out (d .1) (room (rw e at (h .number)))
+          ap (λ (x : Counted × List ℕ). length (x .1)) (d .2)
+          ∙ over-length P (d .0) out (d .1) (room (rw e at (h .number)))
       go (no e) = ap (λ (x : Counted × List ℕ). length (x .1)) (h .refused e)
 
 -- how many pairs are open
@@ -73,7 +74,8 @@ module _ (refusals : List Condition) (P : List ℕ → Type 0) (out : List ℕ) 
 pub open-pairs-fixed : (s : Session) (t : List ℕ) → Fixed (openPairs s t)
 open-pairs-fixed s t f r r₂ d d₂ = d ∙ sym d₂
 
-pub open-pairs-unique : (s : Session) (t : List ℕ) {r r₂ : Counted} → Owed (openPairs s t) r → Owed (openPairs s t) r₂ → r ≡ r₂
+pub open-pairs-unique : (s : Session) (t : List ℕ) {r r₂ : Counted} → Owed (openPairs s t) r → Owed (openPairs s t) r₂
+    → r ≡ r₂
 open-pairs-unique s t = owed-unique (openPairs s t) (open-pairs-fixed s t)
 
 unfoldable pub open-pairs-there : (s : Session) (t : List ℕ) → (r : Counted) × Owed (openPairs s t) r

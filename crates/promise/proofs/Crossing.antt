@@ -51,7 +51,8 @@ module _ (s : Session) (t : List ℕ) where
 
 -- any call that writes and counts: hierarchy, ladder, write
 module _
-    {Bytes : Type 0} (c : Call (Counted × Bytes)) (numbered : (o : Counted × Bytes) → countNumber (o .0) ≡ c .number o) where
+    {Bytes : Type 0} (c : Call (Counted × Bytes))
+    (numbered : (o : Counted × Bytes) → countNumber (o .0) ≡ c .number o) where
   abbrev image : Counted × Bytes → CrossedCount × Bytes
   image o = (countFor (o .0), o .1)
 
@@ -65,5 +66,6 @@ module _
       Fixed c → {o o₂ : CrossedCount × Bytes} → Owed (writesForC c) o → Owed (writesForC c) o₂ → o ≡ o₂
   writes-for-C-unique = crossing-unique image (λ o. o .0 .number) c same
 
-  unfoldable pub writes-for-C-there : (o : Counted × Bytes) × Owed c o → (i : CrossedCount × Bytes) × Owed (writesForC c) i
+  unfoldable pub writes-for-C-there : (o : Counted × Bytes) × Owed c o → (i : CrossedCount × Bytes)
+      × Owed (writesForC c) i
   writes-for-C-there = crossing-there image (λ o. o .0 .number) c same

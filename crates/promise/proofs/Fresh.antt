@@ -79,7 +79,8 @@ fresh-there n t =
         }
 
 -- an accepted fresh stands for the empty set of facts
-pub fresh-stands : {n : ℕ} {t : List ℕ} {r : Reply} {t′ : List ℕ} → Owed (fresh n t) (r, t′) → r .number ≡ 0 → StandsFor (Listed []) (r .session) t′
+pub fresh-stands : {n : ℕ} {t : List ℕ} {r : Reply} {t′ : List ℕ} → Owed (fresh n t) (r, t′) → r .number ≡ 0
+    → StandsFor (Listed []) (r .session) t′
 fresh-stands {n} {t} {r} {t′} h e =
     rw (changes-session h e)
     (record {

@@ -166,7 +166,8 @@ module _ (s : Session) (t heads steps : List ℕ) where
       ∙ sym (d₂ .4)
 
   pub hierarchy-unique :
-      {o o₂ : Counted × (List ℕ × List ℕ)} → Owed (hierarchy s t heads steps) o → Owed (hierarchy s t heads steps) o₂ → o ≡ o₂
+      {o o₂ : Counted × (List ℕ × List ℕ)} → Owed (hierarchy s t heads steps) o → Owed (hierarchy s t heads steps) o₂
+      → o ≡ o₂
   hierarchy-unique = owed-unique (hierarchy s t heads steps) hierarchy-fixed
 
   unfoldable pub hierarchy-there : (o : Counted × (List ℕ × List ℕ)) × Owed (hierarchy s t heads steps) o

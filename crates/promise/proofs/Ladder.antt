@@ -109,7 +109,8 @@ module _ (n : ℕ) (t : List ℕ) (sound : Sound n t) where
   top-ends {b} {g} {c} hb p r =
       let d = r .direct in
       d .differ
-      (heads-equal n t sound (d .from) (d .to) (d .under, through (d .to .below) hb (p .below) (r .under) (p .equal .0)))
+      (heads-equal n t sound (d .from) (d .to)
+      (d .under, through (d .to .below) hb (p .below) (r .under) (p .equal .0)))
 
   rung-unique : {a b c c₂ : ℕ} → NextRung n t b a c → NextRung n t b a c₂ → c ≡ c₂
   rung-unique {a} {b} {c} {c₂} p q =
@@ -122,7 +123,8 @@ module _ (n : ℕ) (t : List ℕ) (sound : Sound n t) where
   ladder-same hb e (Ladder.end p) (Ladder.end q) = ap (λ (x : ℕ). x ∷ []) e
   ladder-same hb e (Ladder.end p) (Ladder.rung r m) = absurd (top-ends hb (rw e at p) r)
   ladder-same hb e (Ladder.rung r l) (Ladder.end q) = absurd (top-ends hb (rw (← e) at q) r)
-  ladder-same {b} hb e (Ladder.rung {rung = a} {next = c} {l = l} r p) (Ladder.rung {rung = a₂} {next = c₂} {l = l₂} r₂ q) =
+  ladder-same {b} hb e (Ladder.rung {rung = a} {next = c} {l = l} r p)
+      (Ladder.rung {rung = a₂} {next = c₂} {l = l₂} r₂ q) =
       ap (λ (x : ℕ). x ∷ l) e ∙ ap (λ (m : List ℕ). a₂ ∷ m) (ladder-same hb (rung-unique r (rw (← e) at r₂)) p q)
 
   pub ladder-unique : {a b : ℕ} → b < n → (l l₂ : List ℕ) → LadderOf n t a b l → LadderOf n t a b l₂ → l ≡ l₂
@@ -206,7 +208,8 @@ module _ (n : ℕ) (t : List ℕ) (sound : Sound n t) where
     where
       go :
           Dec ((e : ℕ) × (e < n) × Third n t a g e)
-          → ((e : ℕ) → between a e .0 < fuel → Head n t e → Under n t a e → a ≢ e → (c : ℕ) × Direct n t a c × Under n t c e)
+          → ((e : ℕ) → between a e .0 < fuel → Head n t e → Under n t a e → a ≢ e → (c : ℕ) × Direct n t a c
+          × Under n t c e)
           → (c : ℕ) × Direct n t a c × Under n t c g
       go (no none) later = (g, direct-alone ha hg u ne none, sound .diagonal g (hg .below))
       go (yes (e, he, z)) later =
@@ -215,7 +218,8 @@ module _ (n : ℕ) (t : List ℕ) (sound : Sound n t) where
           (r .0, r .1, through (r .1 .to .below) he (hg .below) (r .2) (z .under))
 
   -- the next rung, where a rung is under b and not yet its head
-  unfoldable pub rung-there : {a b : ℕ} → b < n → Head n t a → Under n t a b → ¬ Under n t b a → (c : ℕ) × NextRung n t b a c
+  unfoldable pub rung-there : {a b : ℕ} → b < n → Head n t a → Under n t a b → ¬ Under n t b a → (c : ℕ)
+      × NextRung n t b a c
   rung-there {a} {b} hb ha u not-yet =
       (r .0, record { direct = r .1 .0; under = r .1 .1; lowest = λ d dd ud. r .2 d (dd, ud) })
     where

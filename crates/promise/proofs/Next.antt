@@ -88,7 +88,8 @@ unfoldable pub next-there : (s : Session) (t : List ℕ) → (q : Question) × O
 next-there s t =
     owed-there (next s t) (λ k. refl) (standing-there [] s t (λ st. (0, refl))) (λ f.
     pick
-    (first-of (s .classes) t (pairsOf Open (is (s .classes) t 0) (s .classes)) (pairs-listed Open (is (s .classes) t 0) (s .classes))))
+    (first-of (s .classes) t (pairsOf Open (is (s .classes) t 0) (s .classes))
+    (pairs-listed Open (is (s .classes) t 0) (s .classes))))
   where
     Open : ℕ → ℕ → Type 0
     Open a b = mark (s .classes) t a b ≡ 0
@@ -151,7 +152,8 @@ rounds-end {k} {s} {s′} {t} {t′} {q} st rounds h = go q (h .number) (h .done
     i = rounds-bounded (standing-passed [] st .0) rounds
 
     go :
-        (q : Question) → First (standing s′ t′ []) (questionNumber q) → (questionNumber q ≡ 0 → Names (s′ .classes) t′ q)
+        (q : Question) → First (standing s′ t′ []) (questionNumber q)
+        → (questionNumber q ≡ 0 → Names (s′ .classes) t′ q)
         → (q ≡ Done) ⊎ (k < opens (s .classes) t)
     go (Ask a b) f y = inr (some (y refl) (ℕ-discrete (opens (s .classes) t′) 0))
       where
@@ -164,7 +166,8 @@ rounds-end {k} {s} {s′} {t} {t′} {q} st rounds h = go q (h .number) (h .done
     go (Refused number place) f y = absurd (y (stands-first [] (i .0) f))
 
 -- next says done exactly when no pair is counted as open
-pub done-exactly : (s : Session) (t : List ℕ) {q : Question} → Owed (next s t) q → questionNumber q ≡ 0 → (q ≡ Done) ↔ (opens (s .classes) t ≡ 0)
+pub done-exactly : (s : Session) (t : List ℕ) {q : Question} → Owed (next s t) q → questionNumber q ≡ 0
+    → (q ≡ Done) ↔ (opens (s .classes) t ≡ 0)
 done-exactly s t {q} h e = go q (h .done e)
   where
     go : (q : Question) → Names (s .classes) t q → (q ≡ Done) ↔ (opens (s .classes) t ≡ 0)

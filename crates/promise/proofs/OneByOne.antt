@@ -76,7 +76,8 @@ clip-listed n played = (noesOf pairs, λ f. (λ h. there f h, λ i. back f (noes
     there : (f : Fact) → ClipNo n played f → Listed (noesOf pairs) f
     there f h =
         noes-mem pairs f .1 (
-          pairs-listed Apart apart? n .exact (f .lower) (f .upper) .1 (h .below .lower-below, h .below .upper-below, (h .member, h .non-member)),
+          pairs-listed Apart apart? n .exact (f .lower) (f .upper) .1
+              (h .below .lower-below, h .below .upper-below, (h .member, h .non-member)),
           h .is-no,
         )
 
@@ -118,7 +119,8 @@ tells-fit n (f ∷ l) all = (all f (List·Memᴰ·head refl), tells-fit n l (λ 
 
 -- tells leave the session as it is
 told-same :
-    {s : Session} {t : List ℕ} {f : Fact} {r : Reply} {t′ : List ℕ} → Owed (tell Kind.told s t f) (r, t′) → r .session ≡ s
+    {s : Session} {t : List ℕ} {f : Fact} {r : Reply} {t′ : List ℕ} → Owed (tell Kind.told s t f) (r, t′)
+    → r .session ≡ s
 told-same {s = s} {r = r} h = go (ℕ-discrete (r .number) 0)
   where
     go : Dec (r .number ≡ 0) → r .session ≡ s
@@ -141,7 +143,8 @@ tells-same (f ∷ l) {s} {s′} {t} (Run.call {m = m} {t₁ = t₁} {r = r} h nu
 -- clip is accepted exactly where each of them is, and then leaves what they leave; otherwise it is refused with 6,
 -- and nothing changed.
 pub clip-told :
-    {s : Session} {t : List ℕ} {played : List Bool} {r : Reply} {t′ : List ℕ} {made : List Made} {s″ : Session} {t″ : List ℕ}
+    {s : Session} {t : List ℕ} {played : List Bool} {r : Reply} {t′ : List ℕ} {made : List Made} {s″ : Session}
+    {t″ : List ℕ}
     → Owed (clip s t played) (r, t′) → First (standing s t []) 0 → ¬ MemberBeyond (s .classes) played
     → (l : List Fact) → ((f : Fact) → ClipNo (s .classes) played f ↔ Listed l f) → Run s t made s″ t″
     → callsOf made ≡ tellsOf l

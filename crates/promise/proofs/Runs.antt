@@ -39,7 +39,8 @@ stands-equal i j st =
 -- One call: its outcome is there and the only one, and what it leaves.
 
 pub intake-unique :
-    (c : Intake) (s : Session) (t : List ℕ) {o o₂ : Reply × List ℕ} → Owed (taking c s t) o → Owed (taking c s t) o₂ → o ≡ o₂
+    (c : Intake) (s : Session) (t : List ℕ) {o o₂ : Reply × List ℕ} → Owed (taking c s t) o → Owed (taking c s t) o₂
+    → o ≡ o₂
 intake-unique (Intake.fact kind f) s t h h₂ = tell-unique kind h h₂
 intake-unique (Intake.clipped played) s t h h₂ = clip-unique h h₂
 
@@ -81,7 +82,8 @@ intake-opens (Intake.clipped played) s t h k e =
 -- accepted before", a clip "exactly when no order agrees with all of them and the facts accepted before"; and neither
 -- is refused for another reason
 pub intake-contradicted :
-    (c : Intake) (s : Session) (t : List ℕ) {S : Facts} {r : Reply} {t′ : List ℕ} → StandsFor S s t → Fits (s .classes) c
+    (c : Intake) (s : Session) (t : List ℕ) {S : Facts} {r : Reply} {t′ : List ℕ} → StandsFor S s t
+    → Fits (s .classes) c
     → Owed (taking c s t) (r, t′)
     → ((r .number ≢ 0) ↔ Impossible (s .classes) (S and SaidBy (s .classes) c)) × (r .number ≢ 0 → r .number ≡ 6)
 intake-contradicted (Intake.fact kind f) s t st b h = tell-refused kind st b h
@@ -97,11 +99,13 @@ run-stands {n} {S} {s} {s′} {t} {t′} c st (Run.call {m = m} {later = later} 
   where
     go :
         (k : ℕ) → r .number ≡ k
-        → ((T : Facts) → r .session .classes ≡ n → StandsFor T (r .session) t₁ → StandsFor (T and Accepted n later) s′ t′)
+        → ((T : Facts) → r .session .classes ≡ n → StandsFor T (r .session) t₁
+        → StandsFor (T and Accepted n later) s′ t′)
         → StandsFor (S and (UnlessRefused k (SaidBy n (m .call)) and Accepted n later)) s′ t′
     go zero z next =
         let l = intake-leaves (m .call) s t h z in
-        stands-equal (and-left S (SaidBy n (m .call)) (Accepted n later)) (and-right S (SaidBy n (m .call)) (Accepted n later))
+        stands-equal (and-left S (SaidBy n (m .call)) (Accepted n later))
+        (and-right S (SaidBy n (m .call)) (Accepted n later))
         (next (S and SaidBy n (m .call)) (l .classes ∙ c)
         (subst (λ (k : ℕ). StandsFor (S and SaidBy k (m .call)) (r .session) t₁) c (leaves-stands l st)))
     go (suc k) z next =
@@ -154,12 +158,14 @@ run-rest {s} {s′} {t} {t′} (Run.call {m = m} {t₁ = t₁} {r = r} h e run) 
 -- A run from fresh: demand 3 for its class count.
 module _ {n : ℕ} {t : List ℕ} {made : List Made} {s′ : Session} {t′ : List ℕ} (h : FromFresh n t made s′ t′) where
   pub fresh-run-classes : s′ .classes ≡ n
-  fresh-run-classes = run-tests (h .run) .0 ∙ ap (λ (s : Session). s .classes) (changes-session (h .began) (h .accepted))
+  fresh-run-classes = run-tests (h .run) .0
+      ∙ ap (λ (s : Session). s .classes) (changes-session (h .began) (h .accepted))
 
   -- "The tally is therefore a number read off the history."
   pub fresh-run-tests : s′ .tests ≡ testsIn (h .run)
   fresh-run-tests =
-      let e : h .reply .session .tests ≡ 0 = ap (λ (s : Session). s .tests) (changes-session (h .began) (h .accepted)) in
+      let e : h .reply .session .tests ≡ 0 = ap (λ (s : Session). s .tests) (changes-session (h .began) (h .accepted))
+      in
       omega (arith, run-tests (h .run) .1)
 
   -- "At most n*n-n tests can be counted."
@@ -170,7 +176,8 @@ module _ {n : ℕ} {t : List ℕ} {made : List Made} {s′ : Session} {t′ : Li
 
   pub fresh-run-rest : SameRest n t t′
   fresh-run-rest =
-      let e : h .reply .session .classes ≡ n = ap (λ (s : Session). s .classes) (changes-session (h .began) (h .accepted)) in
+      let e : h .reply .session .classes ≡ n = ap (λ (s : Session). s .classes)
+      (changes-session (h .began) (h .accepted)) in
       rest-trans (h .began .done (h .accepted) .rest) (rw e at (run-rest (h .run)))
 
   pub fresh-run-table : TableOf n (Accepted n made) t′

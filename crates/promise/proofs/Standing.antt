@@ -76,7 +76,8 @@ stands-first own st (inr (_, inr (_, inr (_, inr (_, w))))) = w
 
 -- a refusal 1 to 4 comes before those of the call itself
 pub standing-refused :
-    (own : List Condition) (s : Session) (t : List ℕ) (k : ℕ) → First (standing s t []) k → k ≢ 0 → First (standing s t own) k
+    (own : List Condition) (s : Session) (t : List ℕ) (k : ℕ) → First (standing s t []) k → k ≢ 0
+    → First (standing s t own) k
 standing-refused own s t k (inl p) ne = inl p
 standing-refused own s t k (inr (p, inl q)) ne = inr (p, inl q)
 standing-refused own s t k (inr (p, inr (q, inl r))) ne = inr (p, inr (q, inl r))

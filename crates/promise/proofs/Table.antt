@@ -64,13 +64,16 @@ askedForC number place asks a b = record { number = number; place = place; asks 
 abbrev pub countedForC : ℕ → ℕ → ℕ → CrossedCount
 countedForC number place count = record { number = number; place = place; count = count }
 
+abbrev sessionOf : ℕ → ℕ → Session
+sessionOf n tests = record { classes = n; tests = tests }
+
 -- "n 0 and tally 0"
 abbrev pub nothing : Session
-nothing = record { classes = 0; tests = 0 }
+nothing = sessionOf 0 0
 
 -- three classes and the tests counted; four classes
 abbrev pub three : ℕ → Session
-three tests = record { classes = 3; tests = tests }
+three = sessionOf 3
 
 abbrev pub four : Session
 four = started 4
@@ -265,8 +268,7 @@ row Mark.open-short-table = Input.openPairs (three 0) (nines 8) gives Refused 2 
 row Mark.open-not-sound = Input.openPairs (three 0) unsound gives Refused 3 0
 row Mark.open-overcounted = Input.openPairs (three 1) p2 gives Refused 4 0
 row Mark.tell-129-classes =
-    Input.tell Kind.told (record { classes = 129; tests = 5 }) [] (under 0 0)
-    gives (replied 1 0 (record { classes = 129; tests = 5 }), [])
+    Input.tell Kind.told (sessionOf 129 5) [] (under 0 0) gives (replied 1 0 (sessionOf 129 5), [])
 row Mark.tell-overcounted-first = Input.tell Kind.told (three 1) p2 (under 0 3) gives (replied 4 0 (three 1), p2)
 row Mark.tell-lower-beyond = Input.tell Kind.told (three 0) p2 (under 3 0) gives (replied 5 0 (three 0), p2)
 row Mark.tell-upper-beyond = Input.tell Kind.told (three 0) p4 (under 0 5) gives (replied 5 0 (three 0), p4)

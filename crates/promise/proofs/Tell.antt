@@ -124,7 +124,8 @@ pub tell-opens :
     × (adds kind k (mark (s .classes) t (f .lower) (f .upper)) + opens (s .classes) t′ ≤ opens (s .classes) t)
 tell-opens kind {s} {t} {f} {r} {t′} h zero e =
     let p = tell-passed s t f (rw e at (h .number)) in
-    let le = opens-with f (marks-within {n = s .classes} {t = t}) (p .1) (sound-table (p .0 .sound)) (h .done e .marks) in
+    let le = opens-with f (marks-within {n = s .classes} {t = t}) (p .1) (sound-table (p .0 .sound))
+    (h .done e .marks) in
     let q = few kind (mark (s .classes) t (f .lower) (f .upper)) in (
       ap (λ (x : Session). x .classes) (changes-session h e),
       ap (λ (x : Session). x .tests) (changes-session h e),
@@ -145,7 +146,8 @@ tell-opens kind {s} {t} {f} {r} {t′} h (suc k) e =
 
 -- what an accepted fact leaves
 pub tell-leaves :
-    (kind : Kind) {s : Session} {t : List ℕ} {f : Fact} {r : Reply} {t′ : List ℕ} → Owed (tell kind s t f) (r, t′) → r .number ≡ 0
+    (kind : Kind) {s : Session} {t : List ℕ} {f : Fact} {r : Reply} {t′ : List ℕ} → Owed (tell kind s t f) (r, t′)
+    → r .number ≡ 0
     → Leaves (Only f) s t (r .session) t′
 tell-leaves kind {s = s} {t = t} {f = f} h e =
     let o = tell-opens kind h 0 e in
@@ -159,7 +161,8 @@ tell-leaves kind {s = s} {t = t} {f = f} h e =
 
 -- the refusals of a fact where none of 1 to 4 is due
 pub tell-numbers :
-    (kind : Kind) {s : Session} {t : List ℕ} {f : Fact} {r : Reply} {t′ : List ℕ} → Stands s t → Owed (tell kind s t f) (r, t′)
+    (kind : Kind) {s : Session} {t : List ℕ} {f : Fact} {r : Reply} {t′ : List ℕ} → Stands s t
+    → Owed (tell kind s t f) (r, t′)
     → (r .number ≡ 0) ⊎ (r .number ≡ 5) ⊎ (r .number ≡ 6)
 tell-numbers kind {s} {t} {f} {r} st h = go (stands-first (tellRefusals s t f) st (h .number))
   where

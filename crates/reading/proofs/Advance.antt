@@ -165,68 +165,69 @@ pub read-empty : (book t : List ℕ) → length book ≡ 0 → BookRead book t (
 read-empty [] t e = record { followed = (12, inl (refl, refl), inl (λ z. omega arith, (refl, refl))) }
 read-empty (x ∷ book) t e = absurd (omega arith)
 
-module _ {book t₀ : List ℕ} {at : ℕ} {stage : Stage} {s : Session} {t : List ℕ} (h : FieldsLeft book t₀ at stage s t) where
-  pub field-ready : {size : ℕ} → at < length book → size ≡ lengthOf (drop at book) → FieldReady stage book at size s t
-  field-ready l e = record { some = l; gives = e; stands = h .stands }
+module _ {book t₀ : List ℕ} {at : ℕ} {stage : Stage} {s : Session} {t : List ℕ} (h : FieldsLeft book t₀ at stage s t)
+  where
+    pub field-ready : {size : ℕ} → at < length book → size ≡ lengthOf (drop at book) → FieldReady stage book at size s t
+    field-ready l e = record { some = l; gives = e; stands = h .stands }
 
-  module _
-      (l : at < length book) {r : Reply} {t₁ : List ℕ}
-      (part : PartFollowed (Item.head at stage (drop at book) ∷ saidAt book at) s t r t₁)
-    where
-      abbrev items-behind : List Item
-      items-behind = itemsAt book (stageBehind (rowOf (getD (drop at book) 0 0)) stage) (at + sizeOf (drop at book))
+    module _
+        (l : at < length book) {r : Reply} {t₁ : List ℕ}
+        (part : PartFollowed (Item.head at stage (drop at book) ∷ saidAt book at) s t r t₁)
+      where
+        abbrev items-behind : List Item
+        items-behind = itemsAt book (stageBehind (rowOf (getD (drop at book) 0 0)) stage) (at + sizeOf (drop at book))
 
-      whole :
-          (q : Reply) (t′ : List ℕ)
-          → Follows (Item.head at stage (drop at book) ∷ saidAt book at ++ items-behind) s t q t′
-          → Follows (itemsOf book) noSession t₀ q t′
-      whole q t′ f =
-          h .all q t′ (subst (λ (items : List Item). Follows items s t q t′) (sym (items-field book stage at l)) f)
+        whole :
+            (q : Reply) (t′ : List ℕ)
+            → Follows (Item.head at stage (drop at book) ∷ saidAt book at ++ items-behind) s t q t′
+            → Follows (itemsOf book) noSession t₀ q t′
+        whole q t′ f =
+            h .all q t′ (subst (λ (items : List Item). Follows items s t q t′) (sym (items-field book stage at l)) f)
 
-      pub book-refused : r .number ≢ 0 → BookRead book t₀ r t₁
-      book-refused ne =
-          record {
-            followed =
-                whole r t₁ (follows-stop items-behind r t₁ ne (Item.head at stage (drop at book) ∷ saidAt book at) s t
-                (part .follows));
-          }
+        pub book-refused : r .number ≢ 0 → BookRead book t₀ r t₁
+        book-refused ne =
+            record {
+              followed =
+                  whole r t₁ (follows-stop items-behind r t₁ ne (Item.head at stage (drop at book) ∷ saidAt book at) s t
+                  (part .follows));
+            }
 
-      right-here : r .number ≡ 0 → First (fieldRefusals stage (drop at book)) 0
-      right-here z = go (part .follows)
-        where
-          go : Follows (Item.head at stage (drop at book) ∷ saidAt book at) s t r t₁
-              → First (fieldRefusals stage (drop at book)) 0
-          go (k, first, inl (ne, e)) = absurd (ne (sym (ap (λ (x : Reply). x .number) (e .0)) ∙ z))
-          go (k, first, inr (e, _)) = subst (First (fieldRefusals stage (drop at book))) e first
+        right-here : r .number ≡ 0 → First (fieldRefusals stage (drop at book)) 0
+        right-here z = go (part .follows)
+          where
+            go : Follows (Item.head at stage (drop at book) ∷ saidAt book at) s t r t₁
+                → First (fieldRefusals stage (drop at book)) 0
+            go (k, first, inl (ne, e)) = absurd (ne (sym (ap (λ (x : Reply). x .number) (e .0)) ∙ z))
+            go (k, first, inr (e, _)) = subst (First (fieldRefusals stage (drop at book))) e first
 
-      -- where the next field stands
-      pub next-within : r .number ≡ 0 → at + sizeOf (drop at book) ≤ length book
-      next-within z = ends-within book at stage (right-here z)
+        -- where the next field stands
+        pub next-within : r .number ≡ 0 → at + sizeOf (drop at book) ≤ length book
+        next-within z = ends-within book at stage (right-here z)
 
-      pub fields-next :
-          (next : ℕ) → next ≡ at + sizeOf (drop at book) → r .number ≡ 0 → length t₁ ≡ length t
-          → FieldsLeft book t₀ next Begun (r .session) t₁
-      fields-next next e z same =
-          rw e
-          (record {
-            within = next-within z;
-            kept = same ∙ h .kept;
-            stands = λ _. part .stands z;
-            all = λ q t′ f.
-                whole q t′
-                (follows-on items-behind r q t₁ t′ z (Item.head at stage (drop at book) ∷ saidAt book at) s t
-                (part .follows)
-                (subst (λ (stage₁ : Stage). Follows (itemsAt book stage₁ (at + sizeOf (drop at book))) (r .session) t₁ q
-                t′)
-                (sym (stage-behind stage (drop at book) (right-here z))) f));
-          })
+        pub fields-next :
+            (next : ℕ) → next ≡ at + sizeOf (drop at book) → r .number ≡ 0 → length t₁ ≡ length t
+            → FieldsLeft book t₀ next Begun (r .session) t₁
+        fields-next next e z same =
+            rw e
+            (record {
+              within = next-within z;
+              kept = same ∙ h .kept;
+              stands = λ _. part .stands z;
+              all = λ q t′ f.
+                  whole q t′
+                  (follows-on items-behind r q t₁ t′ z (Item.head at stage (drop at book) ∷ saidAt book at) s t
+                  (part .follows)
+                  (subst
+                  (λ (stage₁ : Stage). Follows (itemsAt book stage₁ (at + sizeOf (drop at book))) (r .session) t₁ q t′)
+                  (sym (stage-behind stage (drop at book) (right-here z))) f));
+            })
 
-  pub book-read : length book ≤ at → BookRead book t₀ (accepted s) t
-  book-read l =
-      let end : at ≡ length book = omega (arith, h .within) in
-      record {
-        followed =
-            h .all (accepted s) t
-            (subst (λ (items : List Item). Follows items s t (accepted s) t)
-            (sym (ap (itemsAt book stage) end ∙ items-end book stage)) (refl, refl));
-      }
+    pub book-read : length book ≤ at → BookRead book t₀ (accepted s) t
+    book-read l =
+        let end : at ≡ length book = omega (arith, h .within) in
+        record {
+          followed =
+              h .all (accepted s) t
+              (subst (λ (items : List Item). Follows items s t (accepted s) t)
+              (sym (ap (itemsAt book stage) end ∙ items-end book stage)) (refl, refl));
+        }

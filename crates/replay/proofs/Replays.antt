@@ -28,7 +28,8 @@ use Rattle.promise.proofs.Runs.{fresh-runs-agree}
 use Rattle.replay.specs.Replay.{clipFlags, callOf, callAt, firstCalls, Ran, Replayed}
 
 -- the first i calls of a list, made from a session and a table
-pub record Made-so-far (s₀ : Session) (t₀ numbers : List ℕ) (flags : List Bool) (i : ℕ) (s : Session) (t : List ℕ) : Type 0 where
+pub record Made-so-far (s₀ : Session) (t₀ numbers : List ℕ) (flags : List Bool) (i : ℕ) (s : Session) (t : List ℕ) :
+    Type 0 where
   pub made : List Made
   pub run : Run s₀ t₀ made s t
   pub same : callsOf made ≡ firstCalls numbers flags i
@@ -38,7 +39,8 @@ unfolding firstCalls
 none-made s t numbers flags = record { made = []; run = Run.stop; same = refl }
 
 pub one-more :
-    {s₀ s : Session} {t₀ t t′ : List ℕ} {r : Reply} (numbers : List ℕ) (flags : List Bool) (i : ℕ) → Made-so-far s₀ t₀ numbers flags i s t
+    {s₀ s : Session} {t₀ t t′ : List ℕ} {r : Reply} (numbers : List ℕ) (flags : List Bool) (i : ℕ)
+    → Made-so-far s₀ t₀ numbers flags i s t
     → Owed (taking (callAt numbers flags i) s t) (r, t′) → Made-so-far s₀ t₀ numbers flags (i + 1) (r .session) t′
 unfolding firstCalls
 one-more {s₀} {t₀ = t₀} {t′ = t′} {r = r} numbers flags i h makes =
@@ -76,7 +78,8 @@ module _ {s : Session} {t t′ : List ℕ} {r : Reply} (flags : List Bool) (firs
       clip-same-members played (clipFlags flags first) (λ a. Iff·symm (same .at a)) h
 
 -- What is left by a replay that fresh did not refuse, `made` being the calls with the numbers they got.
-module _ {n : ℕ} {t numbers : List ℕ} {flags : List Bool} {r : Reply} {t′ : List ℕ} (h : Replayed n t numbers flags r t′) (z : r .number ≡ 0) where
+module _ {n : ℕ} {t numbers : List ℕ} {flags : List Bool} {r : Reply} {t′ : List ℕ}
+    (h : Replayed n t numbers flags r t′) (z : r .number ≡ 0) where
   abbrev made : List Made
   made = h .ran z .made
 
@@ -100,7 +103,8 @@ module _ {n : ℕ} {t numbers : List ℕ} {flags : List Bool} {r : Reply} {t′ 
 -- "Hence, if one list of facts is contained in another and both are accepted whole, nothing settled by the first
 -- reads differently under the second."
 pub replays-agree :
-    {n : ℕ} {t t₂ numbers numbers₂ : List ℕ} {flags flags₂ : List Bool} {r r₂ : Reply} {u u₂ : List ℕ} (h : Replayed n t numbers flags r u)
+    {n : ℕ} {t t₂ numbers numbers₂ : List ℕ} {flags flags₂ : List Bool} {r r₂ : Reply} {u u₂ : List ℕ}
+    (h : Replayed n t numbers flags r u)
     (h₂ : Replayed n t₂ numbers₂ flags₂ r₂ u₂) (z : r .number ≡ 0) (z₂ : r₂ .number ≡ 0)
     → Accepted n (h .ran z .made) ⊆ Accepted n (h₂ .ran z₂ .made) → (a b : ℕ) → a < n → b < n
     → mark n u a b ≢ 0 → mark n u₂ a b ≡ mark n u a b
@@ -110,17 +114,20 @@ replays-agree h h₂ z z₂ = fresh-runs-agree (h .ran z .run) (h₂ .ran z₂ .
 pub replay-unique :
     {n : ℕ} {t numbers : List ℕ} {flags : List Bool} {r r₂ : Reply} {u u₂ : List ℕ} → Replayed n t numbers flags r u
     → Replayed n t numbers flags r₂ u₂ → _≡_ {A = Reply × List ℕ} (r, u) (r₂, u₂)
-replay-unique {n} {t} {numbers} {flags} {r} {r₂} {u} {u₂} h h₂ = go (ℕ-discrete (r .number) 0) (ℕ-discrete (r₂ .number) 0)
+replay-unique {n} {t} {numbers} {flags} {r} {r₂} {u} {u₂} h h₂ = go (ℕ-discrete (r .number) 0)
+    (ℕ-discrete (r₂ .number) 0)
   where
     -- the session and the table that two runs leave
-    left : Ran n t numbers flags (r .session) u → Ran n t numbers flags (r₂ .session) u₂ → (r .session ≡ r₂ .session) × (u ≡ u₂)
+    left : Ran n t numbers flags (r .session) u → Ran n t numbers flags (r₂ .session) u₂ → (r .session ≡ r₂ .session)
+        × (u ≡ u₂)
     left f f₂ =
         run-unique
         (subst (λ (o : Reply × List ℕ). Run (o .0 .session) (o .1) (f .made) (r .session) u)
         (fresh-unique (f .run .began) (f₂ .run .began)) (f .run .run)) (f₂ .run .run) (f .same ∙ sym (f₂ .same))
 
     -- a run is not refused by fresh
-    apart : {s : Session} {v w : List ℕ} {y : Reply} → Ran n t numbers flags s v → Owed (fresh n t) (y, w) → y .number ≡ 0
+    apart : {s : Session} {v w : List ℕ} {y : Reply} → Ran n t numbers flags s v → Owed (fresh n t) (y, w)
+        → y .number ≡ 0
     apart f h = sym (ap (λ (o : Reply × List ℕ). o .0 .number) (fresh-unique (f .run .began) h)) ∙ f .run .accepted
 
     go : Dec (r .number ≡ 0) → Dec (r₂ .number ≡ 0) → _≡_ {A = Reply × List ℕ} (r, u) (r₂, u₂)
@@ -140,7 +147,8 @@ taken-below (suc k) (x ∷ l) zero e = omega arith
 taken-below (suc k) (x ∷ l) (suc a) e = let b = taken-below k l a e in omega arith
 
 pub clip-gathered :
-    (l : List Bool) {flags : List Bool} {k : ℕ} → 128 ≤ k → Gathered 128 (Flagged l) k flags → SameFlags (take 128 l) flags
+    (l : List Bool) {flags : List Bool} {k : ℕ} → 128 ≤ k → Gathered 128 (Flagged l) k flags
+    → SameFlags (take 128 l) flags
 clip-gathered l {flags} e h =
     record {
       at = λ a. (

@@ -22,10 +22,12 @@ use Rattle.passes.specs.Taken.{OpenPair, FactTaken}
 module _ (kind : Kind) {s : Session} {t : List ℕ} (st : Stands s t) (lower upper : ℕ) where
   -- 5: a class number is n or more
   pub no-such-class :
-      (holds : Bool) → (s .classes ≤ lower) ⊎ (s .classes ≤ upper) → Owed (tell kind s t (factOn lower upper holds)) (refusal 5 s, t)
+      (holds : Bool) → (s .classes ≤ lower) ⊎ (s .classes ≤ upper)
+      → Owed (tell kind s t (factOn lower upper holds)) (refusal 5 s, t)
   no-such-class holds h =
       let f = factOn lower upper holds in
-      owed-refused (tell kind s t f) (λ k. refl) (first-stands (tellRefusals s t f) st (inl (h, refl))) (λ z. omega arith)
+      owed-refused (tell kind s t f) (λ k. refl) (first-stands (tellRefusals s t f) st (inl (h, refl)))
+      (λ z. omega arith)
 
   module _ (lower-below : lower < s .classes) (upper-below : upper < s .classes) where
     -- neither class is n or more
@@ -62,7 +64,8 @@ module _ (kind : Kind) {s : Session} {t : List ℕ} (st : Stands s t) (lower upp
 
 -- a fact on an open pair, taken in
 pub open-taken :
-    (counts holds : Bool) (s : Session) (t t′ : List ℕ) (lower upper : ℕ) → Stands s t → OpenPair (s .classes) t lower upper
+    (counts holds : Bool) (s : Session) (t t′ : List ℕ) (lower upper : ℕ) → Stands s t
+    → OpenPair (s .classes) t lower upper
     → FactTaken (s .classes) (factOn lower upper holds) t t′
     → Owed (tell (kindOf counts) s t (factOn lower upper holds)) (accepted (tested (countOf counts) s), t′)
 open-taken counts holds s t t′ lower upper st h taken =

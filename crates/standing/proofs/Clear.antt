@@ -36,7 +36,8 @@ clear-more {n} {P} {wrong} {here} {k} l h one =
 
 -- all places were looked at
 pub clear-all :
-    {n : ℕ} {P : ℕ → Type 0} {wrong : Bool} {k : ℕ} → n ≤ k → Clear n P wrong k → (not wrong ≡ true) ↔ ((i : ℕ) → i < n → P i)
+    {n : ℕ} {P : ℕ → Type 0} {wrong : Bool} {k : ℕ} → n ≤ k → Clear n P wrong k
+    → (not wrong ≡ true) ↔ ((i : ℕ) → i < n → P i)
 clear-all {n} {P} {wrong} {k} ended h = (
   λ e i hi. h .down .0 (not-true wrong e) i (omega arith),
   λ all. ap not (h .down .1 (λ i hi. all i (omega (arith, h .within)))),
@@ -54,23 +55,28 @@ compared x k = go (eqb x k) refl
 pass-on : (x y k : ℕ) → ((eqb x k && not (eqb y k)) ≡ false) ↔ (x ≡ k → y ≡ k)
 pass-on x y k =
     ⊎-elim
-    (λ p. ⊎-elim (λ q. rw (p .0, q .0) (λ _ _. q .1, λ _. refl)) (λ q. rw (p .0, q .0) (λ e. absurd (true≢false e), λ f. absurd (q .1 (f (p .1))))) (compared y k))
+    (λ p. ⊎-elim (λ q. rw (p .0, q .0) (λ _ _. q .1, λ _. refl))
+    (λ q. rw (p .0, q .0) (λ e. absurd (true≢false e), λ f. absurd (q .1 (f (p .1))))) (compared y k))
     (λ p. rw (p .0) (λ _ z. absurd (p .1 z), λ _. refl)) (compared x k)
 
 -- the test of what is asked at a class
 pub against-clear : (yes-pair : Bool) (x y : ℕ) → (against yes-pair x y ≡ false) ↔ Asks yes-pair x y
 against-clear true x y = (
-  λ e. let p = both-down (eqb y 1 && not (eqb x 1)) (eqb x 2 && not (eqb y 2)) .0 e in (pass-on y x 1 .0 (p .0), pass-on x y 2 .0 (p .1)),
-  λ h. both-down (eqb y 1 && not (eqb x 1)) (eqb x 2 && not (eqb y 2)) .1 (pass-on y x 1 .1 (h .0), pass-on x y 2 .1 (h .1)),
+  λ e. let p = both-down (eqb y 1 && not (eqb x 1)) (eqb x 2 && not (eqb y 2)) .0 e
+      in (pass-on y x 1 .0 (p .0), pass-on x y 2 .0 (p .1)),
+  λ h. both-down (eqb y 1 && not (eqb x 1)) (eqb x 2 && not (eqb y 2)) .1
+      (pass-on y x 1 .1 (h .0), pass-on x y 2 .1 (h .1)),
 )
 against-clear false x y =
     ⊎-elim
-    (λ p. ⊎-elim (λ q. rw (p .0, q .0) (λ e. absurd (true≢false e), λ f. absurd (f (p .1) (q .1)))) (λ q. rw (p .0, q .0) (λ _ _. q .1, λ _. refl)) (compared x 2))
+    (λ p. ⊎-elim (λ q. rw (p .0, q .0) (λ e. absurd (true≢false e), λ f. absurd (f (p .1) (q .1))))
+    (λ q. rw (p .0, q .0) (λ _ _. q .1, λ _. refl)) (compared x 2))
     (λ p. rw (p .0) (λ _ z. absurd (p .1 z), λ _. refl)) (compared y 1)
 
 pub small-clear : (x : ℕ) → (ltb 2 x ≡ false) ↔ (x ≤ 2)
 small-clear x = go (ltb 2 x) refl
   where
     go : (b : Bool) → ltb 2 x ≡ b → (ltb 2 x ≡ false) ↔ (x ≤ 2)
-    go true e = let above = ltb→lt 2 x (subst T (sym e) tt) in (λ z. absurd (true≢false (sym e ∙ z)), λ h. absurd (omega arith))
+    go true e = let above = ltb→lt 2 x (subst T (sym e) tt)
+        in (λ z. absurd (true≢false (sym e ∙ z)), λ h. absurd (omega arith))
     go false e = (λ _. nltb→le 2 x (subst (λ (b : Bool). T (not b)) (sym e) tt), λ _. e)

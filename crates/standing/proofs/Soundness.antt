@@ -73,6 +73,7 @@ module _ {n : ℕ} {t : List ℕ} {a b : ℕ} {r : Bool} where
     λ p. h .1 (p .open-pair is),
   )
 
-pub no-stands : {n : ℕ} {t : List ℕ} {a b : ℕ} → mark n t a b ≢ 1 → mark n t a b ≢ 0 → (true ≡ true) ↔ PairStands n t a b
+pub no-stands : {n : ℕ} {t : List ℕ} {a b : ℕ} → mark n t a b ≢ 1 → mark n t a b ≢ 0
+    → (true ≡ true) ↔ PairStands n t a b
 no-stands not-yes not-open =
     (λ _. record { yes-pair = λ z. absurd (not-yes z); open-pair = λ z. absurd (not-open z) }, λ _. refl)

@@ -48,7 +48,8 @@ module _ {n : ℕ} {t : List ℕ} {c : ℕ} {flags₀ : List Bool} where
       here : new ≡ (getD flags₀ k false || eqb (mark n t c k) 1)
       here = rw (h .rest k (omega arith), row-reads t k at) refl
 
-      go : (b : ℕ) → b < k + 1 → Dec (b ≡ k) → getD (set flags k new) b false ≡ (getD flags₀ b false || eqb (mark n t c b) 1)
+      go : (b : ℕ) → b < k + 1 → Dec (b ≡ k)
+          → getD (set flags k new) b false ≡ (getD flags₀ b false || eqb (mark n t c b) 1)
       go b l (yes e) = rw e (getD-set-same flags k new false (omega (arith, h .size)) ∙ here)
       go b l (no e) = getD-set-other flags k b new false e ∙ h .done b (omega arith)
 
@@ -68,14 +69,17 @@ put-back {n} {t} {c} {flags₀} {flags} below room h = record { at = λ b l. go 
   where
     go :
         (b : ℕ) → b < n → Dec (b ≡ c)
-        → (getD (set flags c (getD flags₀ c false)) b false ≡ true) ↔ ((getD flags₀ b false ≡ true) ⊎ ((c ≢ b) × Under n t c b))
+        → (getD (set flags c (getD flags₀ c false)) b false ≡ true) ↔
+        ((getD flags₀ b false ≡ true) ⊎ ((c ≢ b) × Under n t c b))
     go b l (yes e) =
         rw (e, getD-set-same flags c (getD flags₀ c false) false (omega arith))
         (λ up. inl up, ⊎-elim (λ up. up) (λ p. absurd (p .0 refl)))
     go b l (no e) =
         rw (getD-set-other flags c b (getD flags₀ c false) false e, h .at b l) (
-          λ up. ⊎-elim (λ old. inl old) (λ q. inr (λ z. e (sym z), eqb-true _ _ q)) (either-up (getD flags₀ b false) (eqb (mark n t c b) 1) .0 up),
-          λ p. either-up (getD flags₀ b false) (eqb (mark n t c b) 1) .1 (⊎-elim (λ old. inl old) (λ q. inr (eq-eqb _ _ (q .1))) p),
+          λ up. ⊎-elim (λ old. inl old) (λ q. inr (λ z. e (sym z), eqb-true _ _ q))
+              (either-up (getD flags₀ b false) (eqb (mark n t c b) 1) .0 up),
+          λ p. either-up (getD flags₀ b false) (eqb (mark n t c b) 1) .1
+              (⊎-elim (λ old. inl old) (λ q. inr (eq-eqb _ _ (q .1))) p),
         )
 
 -- the flag of b is up exactly where a third head below k stands between a and b
@@ -103,7 +107,8 @@ module _ {n : ℕ} {t : List ℕ} {a : ℕ} {flags₀ : List Bool} where
           most = omega arith;
           size = same ∙ h .size;
           at = λ b l. (
-            λ up. ⊎-elim (λ old. let p = h .at b l .0 old in (p .0, omega (arith, p .1), p .2)) (λ q. (k, omega arith, third b q)) (added .at b l .0 up),
+            λ up. ⊎-elim (λ old. let p = h .at b l .0 old in (p .0, omega (arith, p .1), p .2))
+                (λ q. (k, omega arith, third b q)) (added .at b l .0 up),
             λ p. added .at b l .1 (back b l (p .0) (p .1) (p .2) (ℕ-discrete (p .0) k)),
           );
         }
@@ -215,7 +220,8 @@ direct-step {n} {t} {a} {b} {flags} h from below down = (
 -- a class that is no head has no direct step
 pub no-steps :
     {n : ℕ} {t : List ℕ} {a count : ℕ} {out out₁ : List ℕ} → ¬ Head n t a
-    → SoFar (Direct n t) (direct? n t) n out count out₁ a 0 → SoFar (Direct n t) (direct? n t) n out count out₁ (a + 1) 0
+    → SoFar (Direct n t) (direct? n t) n out count out₁ a 0
+    → SoFar (Direct n t) (direct? n t) n out count out₁ (a + 1) 0
 no-steps {n} {t} {a} {count} {out} {out₁} not-head h = row-end (go n) refl
   where
     go : (b : ℕ) → SoFar (Direct n t) (direct? n t) n out count out₁ a b

@@ -17,10 +17,20 @@ module _ {n : ℕ} {P : ℕ → Type 0} {best : ℕ} where
   module _ {i : ℕ} (below : i < n) (h : Lowest n P best i) where
     pub lowest-pass : ¬ P i → Lowest n P best (i + 1)
     lowest-pass p =
-        record { most = omega arith; has = h .has; least = below-more (λ k. P k → best ≤ k) i (h .least) (λ q. absurd (p q)) }
+        record {
+          most = omega arith;
+          has = h .has;
+          least = below-more (λ k. P k → best ≤ k) i (h .least)
+              (λ q. absurd (p q));
+        }
 
     pub lowest-keep : best ≤ i → Lowest n P best (i + 1)
-    lowest-keep l = record { most = omega arith; has = h .has; least = below-more (λ k. P k → best ≤ k) i (h .least) (λ _. l) }
+    lowest-keep l = record {
+      most = omega arith;
+      has = h .has;
+      least = below-more (λ k. P k → best ≤ k) i (h .least)
+          (λ _. l);
+    }
 
     pub lowest-take : P i → i < best → Lowest n P i (i + 1)
     lowest-take p l =

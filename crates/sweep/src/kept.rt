@@ -43,12 +43,17 @@ pub fn unchanged(session: Session, lent: usize) -> Given {
     }
 }
 
+// A session with no test.
+pub fn untested(classes: usize) -> Session {
+    Session {
+        classes: classes,
+        tests: 0,
+    }
+}
+
 // At the start all is 0.
 pub fn nothing(state: usize) -> Kept {
-    let session = Session {
-        classes: 0,
-        tests: 0,
-    };
+    let session = untested(0);
     let given = unchanged(session, 0);
     Kept {
         state: state,

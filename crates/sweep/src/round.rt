@@ -4,9 +4,9 @@ use crate::draw::draw;
 use crate::draw::square;
 use crate::kept::Kept;
 use crate::kept::Sizes;
+use crate::kept::untested;
 use crate::trouble::no_trouble;
 use crate::trouble::trouble;
-use promise::Session;
 ghost use Prim.Native.Nat.{_≤_};
 ghost use Rattle.sweep.specs.Few.{Few};
 
@@ -33,11 +33,7 @@ fn draw_sizes(state: &mut usize) -> Sizes
 fn begin(sizes: Sizes, mut kept: Kept) -> Kept
     requires { ⌜ Few (sizes .n) ⌝ }
 {
-    let session = Session {
-        classes: sizes.n,
-        tests: 0,
-    };
-    kept.session = session;
+    kept.session = untested(sizes.n);
     let begun = calls::fresh(trouble(sizes, kept));
     if begun.accepted {
         return begun;

@@ -17,7 +17,8 @@ returns c =
     let a = tried .before .before .before .before .args in
     rw (c .refused .ensures)
     (owed-refused (clip _ _ _) (λ k. refl)
-    (standing-refused (clipRefusals (a .session) _ _) _ _ _ (tried .before .first-refusal .ensures) (tried .if1 .taken)) (tried .if1 .taken))
+    (standing-refused (clipRefusals (a .session) _ _) _ _ _ (tried .before .first-refusal .ensures)
+    (tried .if1 .taken)) (tried .if1 .taken))
 
 take-clip-requires : tie.Need-take-clip-requires
 take-clip-requires c κs =

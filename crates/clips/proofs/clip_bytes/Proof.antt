@@ -15,7 +15,8 @@ use Rattle.clips.proofs.clip_bytes.Statement.{statement}
 use Rattle.clips.proofs.clip_bytes.Tie as tie
 
 -- none of the refusals 1 to 4 is due
-stands : (c : tie.Else1) → Stands (c .before .before .before .before .before .args .session) (c .before .before .before .before .before .args .table .now)
+stands : (c : tie.Else1) → Stands (c .before .before .before .before .before .args .session)
+    (c .before .before .before .before .before .args .table .now)
 stands c = stood _ _ _ (c .before .first-refusal .ensures) (c .if1 .left)
 
 returns : tie.Need-returns
@@ -30,7 +31,8 @@ returns c =
 returns-2 : tie.Need-returns-2
 returns-2 c =
     let short = c .before in
-    rw (c .refused2 .ensures) (bytes-misfit _ _ _ (stands (short .before .before)) (λ fit. omega (arith, short .if2 .taken, fit .enough)))
+    rw (c .refused2 .ensures) (bytes-misfit _ _ _ (stands (short .before .before))
+    (λ fit. omega (arith, short .if2 .taken, fit .enough)))
 
 returns-3 : tie.Need-returns-3
 returns-3 c =

@@ -19,7 +19,8 @@ returns : tie.Need-returns
 returns c =
     let judged = c .before in
     let start = judged .before .before .before .before in
-    rw (c .refused .ensures) (clip-beyond (stands start) (stable (beyond? _ _) (denied (judged .if1 .taken) (judged .before .none-beyond .ensures))))
+    rw (c .refused .ensures) (clip-beyond (stands start)
+    (stable (beyond? _ _) (denied (judged .if1 .taken) (judged .before .none-beyond .ensures))))
 
 none-contradicts-requires : tie.Need-none-contradicts-requires
 none-contradicts-requires c κs = shaped (stands (c .before .before .before .before .before))
@@ -37,7 +38,8 @@ non-members-requires : tie.Need-non-members-requires
 non-members-requires c κs = stands (c .before .before .before .before .before .before .before) .few
 
 spread-requires : tie.Need-spread-requires
-spread-requires c κs = shaped (stands (c .before .before .before .before .before .before .before .before .before .before))
+spread-requires c κs = shaped (stands
+    (c .before .before .before .before .before .before .before .before .before .before))
 
 returns-3 : tie.Need-returns-3
 returns-3 c =

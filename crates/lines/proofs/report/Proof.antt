@@ -16,7 +16,8 @@ put-line-requires c κs =
     (omega (arith, decimal-longest (reply .number) (omega arith), decimal-longest (reply .place) (omega arith)))
 
 returns : tie.Need-returns
-returns c = reported-refused (c .before .before .before .before .before .if1 .taken) (c .before .before .put-line .ensures)
+returns c = reported-refused (c .before .before .before .before .before .if1 .taken)
+    (c .before .before .put-line .ensures)
 
 opened-requires : tie.Need-opened-requires
 opened-requires c κs = c .before .before .before .before .before .before .before .pre .stands (c .before .if1 .left)

@@ -17,4 +17,5 @@ put-line-requires c κs =
     ))
 
 pub report-too-long-spec : {M : Type 1} → statement M
-report-too-long-spec = tie.close (tie.spec (λ c. search needs) put-line-requires (λ c. search needs) (λ c. search needs))
+report-too-long-spec = tie.close
+    (tie.spec (λ c. search needs) put-line-requires (λ c. search needs) (λ c. search needs))

@@ -12,12 +12,23 @@ mul-marks : tie.Need-mul-marks
 mul-marks c = omega (arith, few-marks (c .before .before .before .read .ensures))
 
 slice-reshare-prefix-report : tie.Need-slice-reshare-prefix-report
-slice-reshare-prefix-report c = omega (arith, few-marks (c .before .before .before .read .ensures), c .before .before .before .before .before .before .before .before .before .before .pre .marks-room, c .before .before .before .read .kept .1 .0)
+slice-reshare-prefix-report c = omega (
+  arith,
+  few-marks (c .before .before .before .read .ensures),
+  c .before .before .before .before .before .before .before .before .before .before .pre .marks-room,
+  c .before .before .before .read .kept .1 .0,
+)
 
 slice-aggregate-report : tie.Need-slice-aggregate-report
 slice-aggregate-report c =
     let h = c .before .before .before .before .read in
-    sym (length-take-le _ (h .last .1 .0) (omega (arith, few-marks (h .ensures), c .before .before .before .before .before .before .before .before .before .before .before .pre .marks-room, h .kept .1 .0)))
+    sym (length-take-le _ (h .last .1 .0)
+    (omega (
+      arith,
+      few-marks (h .ensures),
+      c .before .before .before .before .before .before .before .before .before .before .before .pre .marks-room,
+      h .kept .1 .0,
+    )))
 
 report-requires : tie.Need-report-requires
 report-requires c κs =

@@ -20,7 +20,8 @@ slice-aggregate-answer c =
 slice-aggregate-write-all-2 : tie.Need-slice-aggregate-write-all-2
 slice-aggregate-write-all-2 c =
     let said = c .before .before .before .before .before .answer in
-    sym (length-take-le (said .result) (said .last .1 .1 .1 .1 .0) (omega (arith, said .ensures .put .fits, said .kept .1 .1 .1 .1 .0)))
+    sym (length-take-le (said .result) (said .last .1 .1 .1 .1 .0)
+    (omega (arith, said .ensures .put .fits, said .kept .1 .1 .1 .1 .0)))
 
 pub main-spec : {M : Type 1} → statement M
 main-spec =

@@ -13,7 +13,8 @@ use Rattle.replay.proofs.flag_at.Tie as tie
 returns : tie.Need-returns
 returns c =
     let a = c .before .args in
-    flag-behind (a .flags .now) (128 * a .k + a .class) (omega arith) ∙ sym (getD-drop (128 * a .k) (a .flags .now) (a .class) false)
+    flag-behind (a .flags .now) (128 * a .k + a .class) (omega arith)
+    ∙ sym (getD-drop (128 * a .k) (a .flags .now) (a .class) false)
 
 returns-2 : tie.Need-returns-2
 returns-2 c =
@@ -23,7 +24,8 @@ returns-2 c =
 returns-3 : tie.Need-returns-3
 returns-3 c =
     let a = c .before .before .args in
-    flag-behind (a .flags .now) (128 * a .k + a .class) (omega arith) ∙ sym (getD-drop (128 * a .k) (a .flags .now) (a .class) false)
+    flag-behind (a .flags .now) (128 * a .k + a .class) (omega arith)
+    ∙ sym (getD-drop (128 * a .k) (a .flags .now) (a .class) false)
 
 pub flag-at-spec : {M : Type 1} → statement M
 flag-at-spec =

@@ -22,7 +22,8 @@ returns-3 c =
     let called = c .before .before in
     let read = called .before in
     let matched = read .before .before in
-    clip-made _ _ _ _ _ (matched .match .rest .0 .1) (matched .match .rest .1) (read .clip-at .ensures) (called .clip .ensures)
+    clip-made _ _ _ _ _ (matched .match .rest .0 .1) (matched .match .rest .1) (read .clip-at .ensures)
+    (called .clip .ensures)
 
 pub make-spec : {M : Type 1} → statement M
 make-spec =

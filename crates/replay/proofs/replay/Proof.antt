@@ -12,7 +12,8 @@ use Rattle.replay.proofs.replay.Tie as tie
 
 abbrev Inv-loop : tie.InvT-loop
 Inv-loop classes table₀ numbers flags session₀ i₀ i-end table session i =
-    (i ≤ i-end) × (i-end ≡ length numbers / 4) × (length table ≡ length table₀) × Made-so-far session₀ table₀ numbers flags i session table
+    (i ≤ i-end) × (i-end ≡ length numbers / 4) × (length table ≡ length table₀)
+    × Made-so-far session₀ table₀ numbers flags i session table
 
 abbrev μ-loop : tie.MeasureT-loop
 μ-loop classes table₀ numbers flags session₀ i₀ i-end table session i = i-end - i

@@ -28,7 +28,11 @@ returns-3 c =
     let tried = c .before .before in
     rw (c .refused3 .ensures, c .before .no-session3 .ensures)
     (owed-refused (fresh _ _) (λ k. refl)
-    (inr (⊎-elim (tried .before .before .if1 .left) (λ z. omega (arith, tried .before .if2 .left)), inl (tried .if3 .taken, refl)))
+    (inr (
+      ⊎-elim (tried .before .before .if1 .left) (λ z. omega (arith, tried .before .if2 .left)),
+      inl
+          (tried .if3 .taken, refl),
+    ))
     (λ z. omega arith))
 
 returns-4 : tie.Need-returns-4

@@ -20,7 +20,8 @@ none : (s : Session) (t : List ℕ) (k : ℕ) → First (standing s t []) k → 
 none s t k h e = subst (λ (number : ℕ). First (standing s t []) number) e h
 
 -- what is found where none of the refusals 1 to 4 is due is the next question
-asked : (s : Session) (t : List ℕ) (q : Question) → First (standing s t []) 0 → Names (s .classes) t q → Owed (next s t) q
+asked : (s : Session) (t : List ℕ) (q : Question) → First (standing s t []) 0 → Names (s .classes) t q
+    → Owed (next s t) q
 asked s t (Ask a b) h names = owed-done (next s t) h refl names
 asked s t Done h names = owed-done (next s t) h refl names
 asked s t (Refused number place) h names = absurd names
@@ -35,7 +36,8 @@ first-open-requires c κs = shaped (stood _ _ _ (c .before .first-refusal .ensur
 returns-2 : tie.Need-returns-2
 returns-2 c =
     let e = c .before in
-    asked _ _ (c .first-open .result) (none _ _ _ (e .before .first-refusal .ensures) (e .if1 .left)) (c .first-open .ensures)
+    asked _ _ (c .first-open .result) (none _ _ _ (e .before .first-refusal .ensures) (e .if1 .left))
+    (c .first-open .ensures)
 
 pub next-spec : {M : Type 1} → statement M
 next-spec = tie.close (tie.spec (λ c κs. search needs) returns first-open-requires returns-2)

@@ -26,7 +26,8 @@ returns-2 c =
     let tried = c .before in
     let a = tried .before .before .before .args in
     owed-done (openPairs (a .session) (a .table .now))
-    (subst (λ (k : ℕ). First (standing (a .session) (a .table .now) []) k) (tried .if1 .left) (tried .before .first-refusal .ensures))
+    (subst (λ (k : ℕ). First (standing (a .session) (a .table .now) []) k) (tried .if1 .left)
+    (tried .before .first-refusal .ensures))
     refl (rw (c .count-open .ensures) refl)
 
 pub open-pairs-spec : {M : Type 1} → statement M

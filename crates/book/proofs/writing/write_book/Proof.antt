@@ -14,7 +14,9 @@ use Rattle.book.proofs.writing.write_book.Tie as tie
 -- an empty part was lent to count the pairs, and then another, so nothing is written yet
 untouched :
     (c : tie.After-list-marked2)
-    → let out = c .before .before .before .before .before .before .before .before .args .out .now in c .list-marked2 .last .1 .1 .1 .0 ++ (c .before .before .before .before .list-marked .last .1 .1 .1 .0 ++ out) ≡ out
+    → let out = c .before .before .before .before .before .before .before .before .args .out .now
+    in c .list-marked2 .last .1 .1 .1 .0
+    ++ (c .before .before .before .before .list-marked .last .1 .1 .1 .0 ++ out) ≡ out
 untouched c =
     let first = c .before .before .before .before .list-marked in
     let out = c .before .before .before .before .before .before .before .before .args .out .now in
@@ -50,11 +52,13 @@ returns c =
 -- there is room for the book
 fits :
     (c : tie.Else1)
-    → let start = c .before .before .before .before .before .before .before .before .before .before .before in BookFits (start .args .n) (start .args .table .now) (start .args .out .now)
+    → let start = c .before .before .before .before .before .before .before .before .before .before .before
+    in BookFits (start .args .n) (start .args .table .now) (start .args .out .now)
 fits c =
     let counted = c .before .before .before in
     let first = counted .before .before .before .before in
-    book-fits _ _ (first .list-marked .ensures) (counted .list-marked2 .ensures) _ (first .before .before .before .before .pre)
+    book-fits _ _ (first .list-marked .ensures) (counted .list-marked2 .ensures) _
+    (first .before .before .before .before .pre)
     (rw (untouched counted) at (c .if1 .left))
 
 write-fields-requires : tie.Need-write-fields-requires
@@ -63,7 +67,8 @@ write-fields-requires c κs = rw (untouched (c .before .before .before .before))
 returns-2 : tie.Need-returns-2
 returns-2 c =
     book-done (fits (c .before .before .before .before))
-    (rw (untouched (c .before .before .before .before .before .before .before)) at (c .before .before .write-fields .ensures))
+    (rw (untouched (c .before .before .before .before .before .before .before))
+    at (c .before .before .write-fields .ensures))
 
 pub write-book-spec : {M : Type 1} → statement M
 write-book-spec =

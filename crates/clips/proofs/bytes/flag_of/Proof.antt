@@ -12,7 +12,8 @@ use Rattle.clips.proofs.bytes.flag_of.Tie as tie
 returns : tie.Need-returns
 returns c =
     let start = c .before .before in
-    byte-set (getD (start .args .played .now) (start .args .class) 0) ∙ sym (flag-read (start .args .played .now) (start .args .class))
+    byte-set (getD (start .args .played .now) (start .args .class) 0)
+    ∙ sym (flag-read (start .args .played .now) (start .args .class))
 
 returns-2 : tie.Need-returns-2
 returns-2 c =

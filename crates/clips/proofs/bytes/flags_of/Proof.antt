@@ -27,7 +27,8 @@ loop-again c =
 returns : tie.Need-returns Inv-loop μ-loop
 returns c =
     let start = c .before .before .before in
-    same-gathered (omega (arith, flags-length (start .args .played .now), start .pre)) (c .loop-test .left) (c .before .loop .inv)
+    same-gathered (omega (arith, flags-length (start .args .played .now), start .pre)) (c .loop-test .left)
+    (c .before .loop .inv)
 
 pub flags-of-spec : {M : Type 1} → statement M
 flags-of-spec =

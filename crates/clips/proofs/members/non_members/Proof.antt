@@ -25,7 +25,8 @@ array-write-others : tie.Need-array-write-others Inv-loop μ-loop
 array-write-others c = omega (arith, c .before .before .before .pre)
 
 loop-again : tie.Need-loop-again Inv-loop μ-loop
-loop-again c = gather-next (c .before .before .before .pre) (c .before .loop-test .taken) (c .before .before .loop .inv) (turned _)
+loop-again c = gather-next (c .before .before .before .pre) (c .before .loop-test .taken)
+    (c .before .before .loop .inv) (turned _)
 
 returns : tie.Need-returns Inv-loop μ-loop
 returns c = gather-end (c .loop-test .left) (c .before .loop .inv)

@@ -25,12 +25,20 @@ loop-holds : tie.Need-loop-holds Inv-loop μ-loop
 loop-holds c = clear-none
 
 add-wrong : tie.Need-add-wrong Inv-loop μ-loop
-add-wrong c = omega (arith, row-below (c .before .before .index .ensures) (c .before .before .before .before .pre .1) (c .loop-test .taken))
+add-wrong c = omega (
+  arith,
+  row-below (c .before .before .index .ensures) (c .before .before .before .before .pre .1)
+      (c .loop-test .taken),
+)
 
 shared-slice-read-wrong : tie.Need-shared-slice-read-wrong Inv-loop μ-loop
 shared-slice-read-wrong c =
     let s = c .before .before .before .before .before in
-    omega (arith, row-below (c .before .before .before .index .ensures) (s .pre .1) (c .before .loop-test .taken), s .pre .0 .room)
+    omega (
+      arith,
+      row-below (c .before .before .before .index .ensures) (s .pre .1) (c .before .loop-test .taken),
+      s .pre .0 .room,
+    )
 
 element-copy-out-wrong : tie.Need-element-copy-out-wrong Inv-loop μ-loop
 element-copy-out-wrong c = omega (arith, c .before .before .before .before .before .pre .0 .few)

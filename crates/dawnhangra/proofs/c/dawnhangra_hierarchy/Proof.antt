@@ -8,7 +8,9 @@ use Rattle.dawnhangra.proofs.c.dawnhangra_hierarchy.Statement.{statemen
 use Rattle.dawnhangra.proofs.c.dawnhangra_hierarchy.Tie as tie
 
 returns : tie.Need-returns
-returns c = rw (c .crossed-count .ensures) (writes-crosses (hierarchy _ _ _ _) (λ o. refl) (c .before .before .before .before .before .hierarchy .ensures))
+returns c = rw (c .crossed-count .ensures)
+    (writes-crosses (hierarchy _ _ _ _) (λ o. refl) (c .before .before .before .before .before .hierarchy .ensures))
 
 pub dawnhangra-hierarchy-spec : {M : Type 1} → statement M
-dawnhangra-hierarchy-spec = tie.close (tie.spec (λ c κs. search needs) (λ c κs. search needs) (λ c. search needs) (λ c. search needs) returns)
+dawnhangra-hierarchy-spec = tie.close
+    (tie.spec (λ c κs. search needs) (λ c κs. search needs) (λ c. search needs) (λ c. search needs) returns)

@@ -8,7 +8,8 @@ use Rattle.dawnhangra.proofs.c.dawnhangra_ladder.Statement.{statement}
 use Rattle.dawnhangra.proofs.c.dawnhangra_ladder.Tie as tie
 
 returns : tie.Need-returns
-returns c = rw (c .crossed-count .ensures) (writes-crosses (ladder _ _ _ _ _) (λ o. refl) (c .before .before .before .ladder .ensures))
+returns c = rw (c .crossed-count .ensures)
+    (writes-crosses (ladder _ _ _ _ _) (λ o. refl) (c .before .before .before .ladder .ensures))
 
 pub dawnhangra-ladder-spec : {M : Type 1} → statement M
 dawnhangra-ladder-spec = tie.close (tie.spec (λ c κs. search needs) (λ c κs. search needs) (λ c. search needs) returns)

@@ -13,7 +13,8 @@ returns c =
     (hierarchy-standing _ _ _ _ _ (c .before .before .first-refusal .ensures) (c .before .if1 .taken))
 
 -- none of the refusals 1 to 4 is due
-passed : (c : tie.Else1) → let a = c .before .before .before .before .before .args in Stands (a .session) (a .table .now)
+passed : (c : tie.Else1) → let a = c .before .before .before .before .before .args in Stands (a .session)
+    (a .table .now)
 passed c = stood _ _ _ (c .before .first-refusal .ensures) (c .if1 .left)
 
 count-open-requires : tie.Need-count-open-requires
@@ -34,7 +35,8 @@ returns-3 : tie.Need-returns-3
 returns-3 c =
     let settled = c .before .before .before .before .before .before .before in
     hierarchy-left _ _ _ _ (passed (settled .before .before))
-    (rw (settled .before .count-open .ensures) at (settled .if2 .left)) (c .before .before .before .before .write-hierarchy .ensures)
+    (rw (settled .before .count-open .ensures) at (settled .if2 .left))
+    (c .before .before .before .before .write-hierarchy .ensures)
 
 pub hierarchy-spec : {M : Type 1} → statement M
 hierarchy-spec =

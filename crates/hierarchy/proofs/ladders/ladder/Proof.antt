@@ -11,7 +11,8 @@ use Rattle.hierarchy.proofs.ladders.ladder.Tie as tie
 
 returns : tie.Need-returns
 returns c =
-    rw (c .refused-count .ensures) (ladder-standing _ _ _ _ _ _ (c .before .before .first-refusal .ensures) (c .before .if1 .taken))
+    rw (c .refused-count .ensures) (ladder-standing _ _ _ _ _ _ (c .before .before .first-refusal .ensures)
+    (c .before .if1 .taken))
 
 -- none of the refusals 1 to 4 is due
 passed : (c : tie.Else1) → let a = c .before .before .before .before .args in Stands (a .session) (a .table .now)
@@ -19,11 +20,13 @@ passed c = stood _ _ _ (c .before .first-refusal .ensures) (c .if1 .left)
 
 returns-2 : tie.Need-returns-2
 returns-2 c =
-    rw (c .refused-count2 .ensures) (ladder-no-class _ _ _ _ _ (passed (c .before .before)) (inl (c .before .if2 .taken)))
+    rw (c .refused-count2 .ensures)
+    (ladder-no-class _ _ _ _ _ (passed (c .before .before)) (inl (c .before .if2 .taken)))
 
 returns-3 : tie.Need-returns-3
 returns-3 c =
-    rw (c .refused-count3 .ensures) (ladder-no-class _ _ _ _ _ (passed (c .before .before .before)) (inr (c .before .if3 .taken)))
+    rw (c .refused-count3 .ensures)
+    (ladder-no-class _ _ _ _ _ (passed (c .before .before .before)) (inr (c .before .if3 .taken)))
 
 count-open-requires : tie.Need-count-open-requires
 count-open-requires c κs = shaped (passed (c .before .before))
@@ -66,7 +69,8 @@ returns-6 c =
     let settled = up .before .before in
     let below = settled .before .before in
     ladder-left _ _ _ _ _ (passed (below .before .before)) (below .before .if2 .left) (below .if3 .left)
-    (rw (settled .before .count-open .ensures) at (settled .if4 .left)) (granted (up .if5 .left) (up .before .under .ensures))
+    (rw (settled .before .count-open .ensures) at (settled .if4 .left))
+    (granted (up .if5 .left) (up .before .under .ensures))
     (c .before .before .write-ladder .ensures)
 
 pub ladder-spec : {M : Type 1} → statement M

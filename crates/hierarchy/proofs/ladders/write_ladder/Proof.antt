@@ -20,7 +20,8 @@ returns : tie.Need-returns
 returns c =
     let climbed = c .before .before .before .before .climb in
     let p = c .before .before .before .before .before .before .before .before .before .before .before .before .pre in
-    let head = c .before .before .before .before .before .before .before .before .find-heads .ensures .at _ (p .lower-below) in
+    let head = c .before .before .before .before .before .before .before .before .find-heads .ensures .at _
+    (p .lower-below) in
     rw (c .refused-count .ensures)
     (ladder-short p head (climbed .ensures) (climbed .kept .1 .1 .1 .1 .1 .1 .0) (c .before .if1 .taken))
 

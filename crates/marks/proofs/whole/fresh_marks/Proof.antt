@@ -23,7 +23,8 @@ record Diagonal (n i : ℕ) (t u : List ℕ) : Type 0 where
   on : (a : ℕ) → a < i → mark n u a a ≡ 1
   off : (a b : ℕ) → b < n → a ≢ b → mark n u a b ≡ mark n t a b
 
-more : (n i k : ℕ) (t u : List ℕ) → Shape n u → i < n → IndexOf n i i k → Diagonal n i t u → Diagonal n (i + 1) t (set u k 1)
+more : (n i k : ℕ) (t u : List ℕ) → Shape n u → i < n → IndexOf n i i k → Diagonal n i t u
+    → Diagonal n (i + 1) t (set u k 1)
 more n i k t u s hi at h =
     record {
       most = omega arith;
@@ -57,7 +58,8 @@ abbrev μ-loop : tie.MeasureT-loop
 μ-loop n table₀ a₀ table a = n - a
 
 shaped :
-    (l : tie.At-loop Inv-loop μ-loop) → Shape (l .before .before .before .before .before .before .args .n) (l .loop .table)
+    (l : tie.At-loop Inv-loop μ-loop)
+    → Shape (l .before .before .before .before .before .before .args .n) (l .loop .table)
 shaped l =
     shape-kept (l .before .before .before .before .before .before .pre)
     (rest-trans (cleared-rest (l .before .before .before .clear .ensures)) (l .loop .inv .rest))

@@ -19,7 +19,8 @@ returns c =
     let a = tried .before .before .before .before .args in
     let f = factOn (a .lower) (a .upper) (a .holds) in
     let due =
-    standing-refused (tellRefusals (a .session) (a .table .now) f) _ _ _ (tried .before .first-refusal .ensures) (tried .if1 .taken)
+    standing-refused (tellRefusals (a .session) (a .table .now) f) _ _ _ (tried .before .first-refusal .ensures)
+    (tried .if1 .taken)
     in
     rw (c .refused .ensures)
     (owed-refused (tell (kindOf (a .counts)) (a .session) (a .table .now) f) (λ k. refl) due (tried .if1 .taken))

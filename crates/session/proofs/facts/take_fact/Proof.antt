@@ -16,18 +16,25 @@ use Rattle.session.proofs.facts.take_fact.Tie as tie
 returns : tie.Need-returns
 returns c =
     let start = c .before .before .before in
-    rw (c .refused .ensures) (no-such-class (kindOf (start .args .counts)) (stood _ _ 0 (start .pre) refl) _ _ _ (inl (c .before .if1 .taken)))
+    rw (c .refused .ensures) (no-such-class (kindOf (start .args .counts)) (stood _ _ 0 (start .pre) refl) _ _ _
+    (inl (c .before .if1 .taken)))
 
 returns-2 : tie.Need-returns-2
 returns-2 c =
     let start = c .before .before .before .before in
-    rw (c .refused2 .ensures) (no-such-class (kindOf (start .args .counts)) (stood _ _ 0 (start .pre) refl) _ _ _ (inr (c .before .if2 .taken)))
+    rw (c .refused2 .ensures) (no-such-class (kindOf (start .args .counts)) (stood _ _ 0 (start .pre) refl) _ _ _
+    (inr (c .before .if2 .taken)))
 
 mark-of-requires : tie.Need-mark-of-requires
 mark-of-requires c κs =
     let start = c .before .before .before .before in
-    let st = stood _ _ 0 (start .pre) refl in
-    (shaped st, c .before .before .if1 .left, c .before .if2 .left, st .sound .small _ _ (c .before .before .if1 .left) (c .before .if2 .left))
+    let st = stood _ _ 0 (start .pre) refl in (
+      shaped st,
+      c .before .before .if1 .left,
+      c .before .if2 .left,
+      st .sound .small _ _
+          (c .before .before .if1 .left) (c .before .if2 .left),
+    )
 
 enum-told : tie.Need-enum-told
 enum-told c = search needs
@@ -62,14 +69,16 @@ returns-3 : tie.Need-returns-3
 returns-3 c =
     let known = c .before .before .before in
     let start = known .before .before .before .before .before in
-    judged-yes (kindOf (start .args .counts)) (stood _ _ 0 (start .pre) refl) _ _ (known .before .before .before .if1 .left) (known .before .before .if2 .left) _
+    judged-yes (kindOf (start .args .counts)) (stood _ _ 0 (start .pre) refl) _ _
+    (known .before .before .before .if1 .left) (known .before .before .if2 .left) _
     (known .mark-of .ensures ∙ ap byteOf (c .before .enum-told .given .1)) (c .judge .ensures)
 
 returns-4 : tie.Need-returns-4
 returns-4 c =
     let known = c .before .before .before in
     let start = known .before .before .before .before .before in
-    judged-no (kindOf (start .args .counts)) (stood _ _ 0 (start .pre) refl) _ _ (known .before .before .before .if1 .left) (known .before .before .if2 .left) _
+    judged-no (kindOf (start .args .counts)) (stood _ _ 0 (start .pre) refl) _ _
+    (known .before .before .before .if1 .left) (known .before .before .if2 .left) _
     (known .mark-of .ensures ∙ ap byteOf (c .before .enum-told2 .given .1)) (c .judge2 .ensures)
 
 returns-5 : tie.Need-returns-5
@@ -78,7 +87,8 @@ returns-5 c =
     let open-pair = taken .before .before in
     let start = open-pair .before .before .before .before .before .before .before in
     rw (c .accepted .ensures, c .before .tested .ensures)
-    (open-taken (start .args .counts) (start .args .holds) (start .args .session) (start .args .table .now) _ _ _ (stood _ _ 0 (start .pre) refl)
+    (open-taken (start .args .counts) (start .args .holds) (start .args .session) (start .args .table .now) _ _ _
+    (stood _ _ 0 (start .pre) refl)
     (opened open-pair) (taken .take-in .ensures))
 
 pub take-fact-spec : {M : Type 1} → statement M

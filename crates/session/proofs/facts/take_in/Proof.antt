@@ -12,14 +12,16 @@ returns : tie.Need-returns
 returns c =
     let start = c .before .before .before .before .before .before in
     let a = start .args in
-    subst⁻¹ (λ (b : Bool). FactTaken (a .n) (factOn (a .lower) (a .upper) b) (a .table .now) (c .before .before .take-yes .last .1 .0))
+    subst⁻¹ (λ (b : Bool). FactTaken (a .n) (factOn (a .lower) (a .upper) b) (a .table .now)
+    (c .before .before .take-yes .last .1 .0))
     (c .before .before .before .before .if1 .taken) (c .before .before .take-yes .ensures)
 
 returns-2 : tie.Need-returns-2
 returns-2 c =
     let start = c .before .before .before .before .before .before in
     let a = start .args in
-    subst⁻¹ (λ (b : Bool). FactTaken (a .n) (factOn (a .lower) (a .upper) b) (a .table .now) (c .before .before .take-no .last .1 .0))
+    subst⁻¹ (λ (b : Bool). FactTaken (a .n) (factOn (a .lower) (a .upper) b) (a .table .now)
+    (c .before .before .take-no .last .1 .0))
     (c .before .before .before .before .if1 .left) (c .before .before .take-no .ensures)
 
 pub take-in-spec : {M : Type 1} → statement M

@@ -25,7 +25,8 @@ returns c = never (λ h. c .if1 .taken (sym (reads _ (c .before .before .index .
 
 loop-again : tie.Need-loop-again Inv-loop μ-loop
 loop-again c =
-    more (omega arith) (c .before .before .before .before .loop .inv) (reads _ (c .before .before .index .ensures) ∙ c .if1 .left)
+    more (omega arith) (c .before .before .before .before .loop .inv)
+    (reads _ (c .before .before .index .ensures) ∙ c .if1 .left)
 
 returns-2 : tie.Need-returns-2 Inv-loop μ-loop
 returns-2 c = (λ _. record { at = all (c .loop-test .left) (c .before .loop .inv) }, λ _. refl)

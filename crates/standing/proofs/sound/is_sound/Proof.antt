@@ -36,13 +36,16 @@ loop2-holds : tie.Need-loop2-holds Inv-loop2 μ-loop2 Inv-loop μ-loop
 loop2-holds c = none
 
 returns-3 : tie.Need-returns-3 Inv-loop2 μ-loop2 Inv-loop μ-loop
-returns-3 c = never (λ h. denied (c .if3 .taken) (c .before .pair-stands .ensures) (pair-of h _ _ (omega arith) (omega arith)))
+returns-3 c = never (λ h. denied (c .if3 .taken) (c .before .pair-stands .ensures)
+    (pair-of h _ _ (omega arith) (omega arith)))
 
 loop2-again : tie.Need-loop2-again Inv-loop2 μ-loop2 Inv-loop μ-loop
-loop2-again c = more (omega arith) (c .before .before .before .loop2 .inv) (granted (c .if3 .left) (c .before .pair-stands .ensures))
+loop2-again c = more (omega arith) (c .before .before .before .loop2 .inv)
+    (granted (c .if3 .left) (c .before .pair-stands .ensures))
 
 loop-again : tie.Need-loop-again Inv-loop2 μ-loop2 Inv-loop μ-loop
-loop-again c = more (omega arith) (c .before .before .before .loop .inv) (all (c .loop2-test .left) (c .before .loop2 .inv))
+loop-again c = more (omega arith) (c .before .before .before .loop .inv)
+    (all (c .loop2-test .left) (c .before .loop2 .inv))
 
 returns-4 : tie.Need-returns-4 Inv-loop2 μ-loop2 Inv-loop μ-loop
 returns-4 c =

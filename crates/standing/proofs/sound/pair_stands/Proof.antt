@@ -10,16 +10,19 @@ use Rattle.standing.proofs.sound.pair_stands.Tie as tie
 returns : tie.Need-returns
 returns c =
     let at = c .before .before .before .index .ensures in
-    yes-stands (reads (c .before .before .before .before .before .args .table .now) at ∙ c .before .if1 .taken) (c .rows-agree .ensures)
+    yes-stands (reads (c .before .before .before .before .before .args .table .now) at ∙ c .before .if1 .taken)
+    (c .rows-agree .ensures)
 
 returns-2 : tie.Need-returns-2
 returns-2 c =
     let at = c .before .before .before .before .before .index .ensures in
-    open-stands (reads (c .before .before .before .before .before .before .before .args .table .now) at ∙ c .before .if2 .taken) (c .rows-agree2 .ensures)
+    open-stands (reads (c .before .before .before .before .before .before .before .args .table .now)
+    at ∙ c .before .if2 .taken) (c .rows-agree2 .ensures)
 
 returns-3 : tie.Need-returns-3
 returns-3 c =
-    let byte = reads (c .before .before .before .before .before .before .args .table .now) (c .before .before .before .before .index .ensures) in
+    let byte = reads (c .before .before .before .before .before .before .args .table .now)
+    (c .before .before .before .before .index .ensures) in
     no-stands (λ e. c .before .before .if1 .left (sym byte ∙ e)) (λ e. c .if2 .left (sym byte ∙ e))
 
 pub pair-stands-spec : {M : Type 1} → statement M

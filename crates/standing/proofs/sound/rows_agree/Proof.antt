@@ -27,20 +27,38 @@ loop-holds : tie.Need-loop-holds Inv-loop μ-loop
 loop-holds c = clear-none
 
 add-speaks-against : tie.Need-add-speaks-against Inv-loop μ-loop
-add-speaks-against c = omega (arith, row-below (c .before .before .before .index .ensures) (c .before .before .before .before .before .pre .1) (c .loop-test .taken))
+add-speaks-against c = omega (
+  arith,
+  row-below (c .before .before .before .index .ensures)
+      (c .before .before .before .before .before .pre .1) (c .loop-test .taken),
+)
 
 shared-slice-read-speaks-against : tie.Need-shared-slice-read-speaks-against Inv-loop μ-loop
 shared-slice-read-speaks-against c =
     let s = c .before .before .before .before .before .before in
-    omega (arith, row-below (c .before .before .before .before .index .ensures) (s .pre .1) (c .before .loop-test .taken), s .pre .0 .room)
+    omega (
+      arith,
+      row-below (c .before .before .before .before .index .ensures) (s .pre .1)
+          (c .before .loop-test .taken),
+      s .pre .0 .room,
+    )
 
 add-speaks-against-2 : tie.Need-add-speaks-against-2 Inv-loop μ-loop
-add-speaks-against-2 c = omega (arith, row-below (c .before .before .before .index2 .ensures) (c .before .before .before .before .before .before .pre .2) (c .before .loop-test .taken))
+add-speaks-against-2 c = omega (
+  arith,
+  row-below (c .before .before .before .index2 .ensures)
+      (c .before .before .before .before .before .before .pre .2) (c .before .loop-test .taken),
+)
 
 shared-slice-read-speaks-against-2 : tie.Need-shared-slice-read-speaks-against-2 Inv-loop μ-loop
 shared-slice-read-speaks-against-2 c =
     let s = c .before .before .before .before .before .before .before in
-    omega (arith, row-below (c .before .before .before .before .index2 .ensures) (s .pre .2) (c .before .before .loop-test .taken), s .pre .0 .room)
+    omega (
+      arith,
+      row-below (c .before .before .before .before .index2 .ensures) (s .pre .2)
+          (c .before .before .loop-test .taken),
+      s .pre .0 .room,
+    )
 
 speaks-against-requires : tie.Need-speaks-against-requires Inv-loop μ-loop
 speaks-against-requires c κs = tt
@@ -50,7 +68,13 @@ loop-again c =
     let l = c .before .before .before .before in
     let t = l .before .before .before .before .args .table .now in
     clear-more (omega arith) (l .loop .inv)
-    (rw (c .speaks-against .ensures, row-reads t (l .loop .c) (l .before .before .index .ensures), row-reads t (l .loop .c) (l .before .index2 .ensures)) (against-clear (l .before .before .before .before .args .settled) _ _))
+    (rw (
+      c .speaks-against .ensures,
+      row-reads t (l .loop .c) (l .before .before .index .ensures),
+      row-reads t
+          (l .loop .c) (l .before .index2 .ensures),
+    )
+    (against-clear (l .before .before .before .before .args .settled) _ _))
 
 returns : tie.Need-returns Inv-loop μ-loop
 returns c =

@@ -21,7 +21,8 @@ abbrev μ-loop2 : tie.MeasureT-loop2
 μ-loop2 n table heads steps₀ count₀ a head thirds b₀ steps count b = n - b
 
 abbrev Inv-loop : tie.InvT-loop
-Inv-loop n table heads steps₀ count₀ a₀ steps count a = (a ≤ n) × SoFar (Direct n table) (direct? n table) n steps₀ count steps a 0
+Inv-loop n table heads steps₀ count₀ a₀ steps count a = (a ≤ n)
+    × SoFar (Direct n table) (direct? n table) n steps₀ count steps a 0
 
 abbrev μ-loop : tie.MeasureT-loop
 μ-loop n table heads steps₀ count₀ a₀ steps count a = n - a

@@ -45,7 +45,8 @@ slice-write-heads c = omega (arith, c .before .before .loop .inv .size)
 
 loop-again : tie.Need-loop-again Inv-loop μ-loop
 loop-again c =
-    one-more (c .before .before .before .before .before .pre .1) (omega arith) (c .before .before .loop .inv) (c .head-of .ensures)
+    one-more (c .before .before .before .before .before .pre .1) (omega arith) (c .before .before .loop .inv)
+    (c .head-of .ensures)
 
 same-length : tie.Need-same-length Inv-loop μ-loop
 same-length c = c .before .loop .inv .size

@@ -40,7 +40,8 @@ slice-write-thirds c = omega (arith, c .before .before .before .loop .inv .size)
 loop-again : tie.Need-loop-again Inv-loop μ-loop
 loop-again c =
     let l = c .before .before .before in
-    adding-more (l .before .before .before .before .pre .2) (c .before .before .loop-test .taken) (l .before .index .ensures) (l .loop .inv)
+    adding-more (l .before .before .before .before .pre .2) (c .before .before .loop-test .taken)
+    (l .before .index .ensures) (l .loop .inv)
 
 same-length : tie.Need-same-length Inv-loop μ-loop
 same-length c = c .before .loop .inv .size

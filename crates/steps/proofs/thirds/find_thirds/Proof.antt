@@ -47,7 +47,8 @@ same-length : tie.Need-same-length Inv-loop μ-loop
 same-length c = c .before .loop .inv .size
 
 returns : tie.Need-returns Inv-loop μ-loop
-returns c = thirds-all (c .before .before .before .before .before .pre .2 .room) (c .loop-test .left) (c .before .loop .inv)
+returns c = thirds-all (c .before .before .before .before .before .pre .2 .room) (c .loop-test .left)
+    (c .before .loop .inv)
 
 pub find-thirds-spec : {M : Type 1} → statement M
 find-thirds-spec =

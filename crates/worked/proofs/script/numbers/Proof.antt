@@ -10,7 +10,8 @@ use Rattle.worked.proofs.script.numbers.Statement.{statement}
 use Rattle.worked.proofs.script.numbers.Tie as tie
 
 abbrev Inv-loop : tie.InvT-loop
-Inv-loop line out₀ count₀ value₀ i₀ out count value i = (i ≤ length line) × (count ≤ length out) × (length out ≡ length out₀)
+Inv-loop line out₀ count₀ value₀ i₀ out count value i = (i ≤ length line) × (count ≤ length out)
+    × (length out ≡ length out₀)
 
 abbrev μ-loop : tie.MeasureT-loop
 μ-loop line out₀ count₀ value₀ i₀ out count value i = length line - i
