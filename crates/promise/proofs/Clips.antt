@@ -8,7 +8,7 @@ use Prim.Native.Nat.{ℕ, _*_, _≤_, _<_}
 use native.Mathlib.Decide.{ℕ-discrete, decLe}
 use native.Mathlib.Omega.{arith}
 use lib.ListN.{length}
-use Rattle.order.specs.Facts.{Facts, notUnder, _and_, _⊆_, Within, Chain, Yes}
+use Rattle.order.specs.Facts.{Facts, factOn, notUnder, _and_, _⊆_, Within, Chain, Yes}
 use Rattle.order.specs.Tables.{mark, Settles, TableOf, Sound, Marks, SomeContradicts, opens, markAgainst}
 use Rattle.order.specs.Orders.{Impossible}
 use Rattle.promise.specs.Refusals.{First, standing}
@@ -71,7 +71,7 @@ module _ (n : ℕ) (played : List Bool) where
     contrary-pair c = part (c .fact .lower) (c .fact .upper) (c .fact .holds) (c .said) (c .against)
       where
         part :
-            (a b : ℕ) (v : Bool) → ClipNo n played (record { lower = a; upper = b; holds = v })
+            (a b : ℕ) (v : Bool) → ClipNo n played (factOn a b v)
             → mark n t a b ≡ markAgainst v → ContraryPair
         part a b true h m = absurd (yes-not-no (h .is-no))
         part a b false h m = (a, h .below .lower-below, (b, h .below .upper-below, ((h .member, h .non-member), m)))
