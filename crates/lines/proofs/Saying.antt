@@ -40,7 +40,7 @@ pub question-short :
     (s : Session) {t : List ℕ} {a b : ℕ} → First (standing s t []) 0 → FirstOpen (s .classes) t a b
     → length (decimal a) + length (decimal b) ≤ 6
 question-short s {a = a} {b = b} st p =
-    let few = standing-passed [] st .0 .few in
+    let few = standing-passed [] s st .0 .few in
     omega (
       arith,
       byte-short a (omega (arith, p .lower-below)),
@@ -56,7 +56,7 @@ never-done s t o h e = let d = rw e at h in omega (arith, done-exactly s t d ref
 pub never-refused :
     (s : Session) (t : List ℕ) {q : Question} {number place : ℕ} → First (standing s t []) 0 → Owed (next s t) q
     → q ≡ Refused number place → ⊥
-never-refused s t st h e = let r = rw e at h in r .done (stands-first [] (standing-passed [] st .0) (r .number))
+never-refused s t st h e = let r = rw e at h in r .done (stands-first [] (standing-passed [] s st .0) (r .number))
 
 -- nor does the count of open pairs
 pub pairs-counted :
@@ -69,12 +69,12 @@ pub pairs-never-refused :
     → r ≡ Counted.Refused number place → ⊥
 pairs-never-refused s t st h e =
     let o = rw e at h in
-    let d = o .done (stands-first [] (standing-passed [] st .0) (o .number)) in
+    let d = o .done (stands-first [] (standing-passed [] s st .0) (o .number)) in
     let z : _≡_ {A = ℕ} 0 1 = cc in omega arith
 
 module _ {s : Session} {t heads steps text : List ℕ} {at : ℕ} (ready : Settled s t heads steps text at) where
   stands : Stands s t
-  stands = standing-passed [] (ready .stands) .0
+  stands = standing-passed [] s (ready .stands) .0
 
   pub classes-few : s .classes ≤ 128
   classes-few = stands .few
@@ -161,7 +161,7 @@ pub counts-short :
     → length (decimal (r .session .classes)) + length (decimal (r .session .tests)) + length (decimal count) ≤ 13
 counts-short {r} {t} {count = count} ready accepted same =
     let s = r .session in
-    let st = standing-passed [] (ready .stands accepted) .0 in
+    let st = standing-passed [] s (ready .stands accepted) .0 in
     let few = square (s .classes) (st .few) in
     omega (
       arith,

@@ -13,7 +13,8 @@ use Rattle.order.proofs.Bytes.{pair-below}
 use Rattle.promise.specs.declared.Session.{Session}
 use Rattle.promise.specs.declared.Reply.{Reply}
 use Rattle.promise.specs.Book.{BookRead}
-use Rattle.promise.proofs.Standing.{Stands, standing-passed, first-stands, square}
+use Rattle.promise.proofs.Standing.{Stands, first-stands, square}
+use Rattle.promise.proofs.Taking.{stands-of}
 use Rattle.promise.proofs.Runs.{fresh-run-stands}
 use Rattle.promise.proofs.Read.{ReadAs, read-run}
 use Rattle.lines.specs.Lines.{marksOf}
@@ -24,8 +25,8 @@ few-classes {book} {t} {r} {t′} h = go (read-run h)
   where
     go : ReadAs book t r t′ → r .session .classes ≤ 128
     go (ReadAs.not-begun p none same k) = rw none (omega arith)
-    go (ReadAs.whole k p run) = standing-passed [] (fresh-run-stands run .stands) .0 .few
-    go (ReadAs.cut k run stop) = standing-passed [] (fresh-run-stands run .stands) .0 .few
+    go (ReadAs.whole k p run) = stands-of (fresh-run-stands run) .few
+    go (ReadAs.cut k run stop) = stands-of (fresh-run-stands run) .few
 
 pub few-marks :
     {book t : List ℕ} {r : Reply} {t′ : List ℕ} → BookRead book t r t′
@@ -39,7 +40,7 @@ accepted-stands {book} {t} {r} {t′} accepted h = go (read-run h)
   where
     go : ReadAs book t r t′ → Stands (r .session) t′
     go (ReadAs.not-begun p none same k) = absurd (⊎-elim (λ q. omega arith) (λ q. omega arith) k)
-    go (ReadAs.whole k p run) = standing-passed [] (fresh-run-stands run .stands) .0
+    go (ReadAs.whole k p run) = stands-of (fresh-run-stands run)
     go (ReadAs.cut k run stop) = absurd (k accepted)
 
 -- the first n*n bytes of a table have its marks

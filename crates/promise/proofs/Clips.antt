@@ -161,7 +161,7 @@ pub clip-passed :
     (s : Session) (t : List ℕ) (played : List Bool) → First (standing s t (clipRefusals s t played)) 0
     → Stands s t × (¬ MemberBeyond (s .classes) played)
     × (¬ SomeContradicts (s .classes) t (ClipNo (s .classes) played))
-clip-passed s t played h = let p = standing-passed (clipRefusals s t played) h in own (p .0) (p .1)
+clip-passed s t played h = let p = standing-passed (clipRefusals s t played) s h in own (p .0) (p .1)
   where
     own :
         Stands s t → First (clipRefusals s t played) 0
@@ -321,7 +321,7 @@ pub clip-agreeing :
 clip-agreeing {s} {t} {played} stands b marked h = clip-unique h agrees
   where
     st : Stands s t
-    st = standing-passed [] stands .0
+    st = standing-passed [] s stands .0
 
     more : (Marks (s .classes) t and ClipNo (s .classes) played) ⊆ Marks (s .classes) t
     more f (inl i) = i

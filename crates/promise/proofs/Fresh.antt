@@ -87,7 +87,7 @@ fresh-stands {n} {t} {r} {t′} h e =
       within = λ f m. absurd (List·Memᴰ·not-nil m);
       table = table;
       stands =
-          first-stands []
+          first-stands [] {s = started n}
           (record {
             some = passed .0;
             few = passed .1;

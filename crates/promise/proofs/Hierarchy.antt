@@ -176,7 +176,7 @@ module _ (s : Session) (t heads steps : List ℕ) where
       (standing-there (hierarchyRefusals s t heads steps) s t (λ st.
       stage 7 (decLt 0 (opens n t)) (λ p₇. stage 8 (short? st) (λ p₈. (0, refl)))))
       (λ f.
-      let hs = heads-there n t (standing-passed (hierarchyRefusals s t heads steps) f .0 .sound) in (
+      let hs = heads-there n t (standing-passed (hierarchyRefusals s t heads steps) s f .0 .sound) in (
         (Count (length (l .0)), (over (hs .0) heads, over (bytesOf (l .0)) steps)),
         refl,
         (hs .0, l .0, hs .1, l .1, refl),
@@ -216,7 +216,7 @@ module _ (s : Session) (t heads steps : List ℕ) where
       go : Dec (countNumber (o .0) ≡ 0) → (length (o .1 .0) ≡ length heads) × (length (o .1 .1) ≡ length steps)
       go (yes e) =
           let d = h .done e in
-          let q = hierarchy-fits (standing-passed (hierarchyRefusals s t heads steps) (rw e at (h .number)) .1) in (
+          let q = hierarchy-fits (standing-passed (hierarchyRefusals s t heads steps) s (rw e at (h .number)) .1) in (
             ap (λ (x : Counted × (List ℕ × List ℕ)). length (x .1 .0)) (d .4)
                 ∙ over-length (HeadsOf (s .classes) t) (d .0) heads (d .2) (λ z. q (inl z)),
             ap (λ (x : Counted × (List ℕ × List ℕ)). length (x .1 .1)) (d .4)

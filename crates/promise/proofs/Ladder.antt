@@ -299,7 +299,7 @@ module _ (s : Session) (t : List ℕ) (a b : ℕ) (out : List ℕ) where
       stage 9 (negated (ℕ-discrete (mark (s .classes) t a b) 1)) (λ p₉.
       stage 8 (short? st p₅ p₉) (λ p₈. (0, refl)))))))
       (λ f.
-      let p = standing-passed (ladderRefusals s t a b out) f in
+      let p = standing-passed (ladderRefusals s t a b out) s f in
       let q = ladder-passed (p .1) in
       ladder-made (p .0) (q .0) (q .1))
     where
@@ -314,7 +314,7 @@ module _ (s : Session) (t : List ℕ) (a b : ℕ) (out : List ℕ) where
   pub ladder-fixed : Fixed (ladder s t a b out)
   ladder-fixed =
       writes-fixed (standing s t (ladderRefusals s t a b out)) (LadderOf (s .classes) t a b) out (λ f.
-      let p = standing-passed (ladderRefusals s t a b out) f in
+      let p = standing-passed (ladderRefusals s t a b out) s f in
       ladder-unique (s .classes) t (p .0 .sound) (below-of (s .classes) a b (ladder-passed (p .1) .0) .1))
 
   pub ladder-written-unique :
@@ -326,12 +326,12 @@ module _ (s : Session) (t : List ℕ) (a b : ℕ) (out : List ℕ) where
       {o : Counted × List ℕ} → Owed (ladder s t a b out) o → length (o .1) ≡ length out
   ladder-length =
       writes-length (standing s t (ladderRefusals s t a b out)) (LadderOf (s .classes) t a b) out (λ f.
-      ladder-passed (standing-passed (ladderRefusals s t a b out) f .1) .2)
+      ladder-passed (standing-passed (ladderRefusals s t a b out) s f .1) .2)
 
   -- with room for 128 rungs 8 never comes up
   pub ladder-room : {o : Counted × List ℕ} → 128 ≤ length out → Owed (ladder s t a b out) o → countNumber (o .0) ≢ 8
   ladder-room {o} room h e =
-      let p = standing-own (ladderRefusals s t a b out) (inr (omega arith)) (h .number) in go (p .0) (p .1)
+      let p = standing-own (ladderRefusals s t a b out) s (inr (omega arith)) (h .number) in go (p .0) (p .1)
     where
       go : Stands s t → First (ladderRefusals s t a b out) (countNumber (o .0)) → ⊥
       go st (inl (_, k)) = omega arith

@@ -107,7 +107,7 @@ asked-accepted :
     {a b : ℕ} {v : Bool} {s : Session} {t : List ℕ} {r : Reply} {t′ : List ℕ} → Owed (next s t) (Ask a b)
     → Owed (tell Kind.answered s t (factOn a b v)) (r, t′) → r .number ≡ 0
 asked-accepted {a} {b} {v} {s} {t} {r} {t′} q h =
-    go (stands-first (tellRefusals s t f) (standing-passed [] (q .number) .0) (h .number))
+    go (stands-first (tellRefusals s t f) (standing-passed [] s (q .number) .0) (h .number))
   where
     f : Fact
     f = factOn a b v
@@ -149,7 +149,7 @@ pub rounds-end :
 rounds-end {k} {s} {s′} {t} {t′} {q} st rounds h = go q (h .number) (h .done)
   where
     i : Stands s′ t′ × (s′ .classes ≡ s .classes) × (k + opens (s .classes) t′ ≤ opens (s .classes) t)
-    i = rounds-bounded (standing-passed [] st .0) rounds
+    i = rounds-bounded (standing-passed [] s st .0) rounds
 
     go :
         (q : Question) → First (standing s′ t′ []) (questionNumber q)

@@ -158,7 +158,7 @@ clip-told {s} {t} {played} {r} {t′} {made} {s″} {t″} h stands b l listing 
 
     before : StandsFor (Marks n t) s t
     before =
-        record { within = marks-within; table = sound-table (standing-passed [] stands .0 .sound); stands = stands }
+        record { within = marks-within; table = sound-table (standing-passed [] s stands .0 .sound); stands = stands }
 
     clipped : Made
     clipped = record { call = Intake.clipped played; number = r .number }

@@ -18,10 +18,10 @@ use Rattle.promise.specs.Calls.{noSession, reply, Owed}
 use Rattle.promise.specs.Tell.{Kind, fresh, tell}
 use Rattle.promise.specs.Runs.{Intake, Made, Run, FromFresh}
 use Rattle.promise.specs.Book.{fieldRefusals, Item, itemsOf, factOf, Ends, GoesOn, Follows, BookRead}
-use Rattle.promise.proofs.Standing.{Stands, standing-passed}
+use Rattle.promise.proofs.Standing.{Stands}
 use Rattle.promise.proofs.Calls.{changes-kept}
 use Rattle.promise.proofs.Fresh.{fresh-unique, fresh-there, fresh-stands, fresh-numbers}
-use Rattle.promise.proofs.Taking.{leaves-keeps}
+use Rattle.promise.proofs.Taking.{stands-of, leaves-keeps}
 use Rattle.promise.proofs.Tell.{tell-unique, tell-there, tell-leaves, tell-numbers}
 use Rattle.promise.proofs.Tags.{field-there, field-numbers}
 use Rattle.promise.proofs.Book.{FieldAt, field-within, ends-within, SaidAt, PlacesRise, Later, CountFirst}
@@ -357,7 +357,7 @@ read-run {book} {t} {r} {t′} h = go (itemsOf book) (items-whole book) (h .foll
         rw (x .0)
         (ReadAs.not-begun (c .0) (kept .0) (x .1 ∙ kept .1) (inl (omega arith, fresh-numbers begun)))
     counted p₀ stage bytes (Item.begin p n ∷ items) c (q, u, begun, inr (k, x)) e =
-        let stands = standing-passed [] (fresh-stands begun k .stands) .0 in
+        let stands = stands-of (fresh-stands begun k) in
         came (follows-run book 1 items (q .session) u (c .2) (c .3) stands x .1)
       where
         from-fresh :

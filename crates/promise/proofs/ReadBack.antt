@@ -203,7 +203,7 @@ pub write-read :
     → s .classes * s .classes ≤ length u → BookRead (take c out′) u r u′
     → (r ≡ accepted (started (s .classes))) × SameMarks (s .classes) t u′
 write-read s t out h long read =
-    let st = standing-passed (writeRefusals s t out) (h .number) .0 in
+    let st = standing-passed (writeRefusals s t out) s (h .number) .0 in
     read-back (written s t out h) (st .sound) (st .some) (st .few) long read
 
 -- two calls for one class count write the same bytes exactly when the marks are equal
@@ -212,7 +212,7 @@ pub writes-equal :
     → Owed (write s₂ u out₂) (Count c₂, out₂′) → s .classes ≡ s₂ .classes
     → (take c out′ ≡ take c₂ out₂′) ↔ SameMarks (s .classes) t u
 writes-equal s s₂ t u out out₂ {c₂ = c₂} {out₂′ = out₂′} h h₂ e =
-    let st = standing-passed (writeRefusals s t out) (h .number) .0 in
-    let st₂ = standing-passed (writeRefusals s₂ u out₂) (h₂ .number) .0 in
+    let st = standing-passed (writeRefusals s t out) s (h .number) .0 in
+    let st₂ = standing-passed (writeRefusals s₂ u out₂) s₂ (h₂ .number) .0 in
     books-equal (st .sound) (subst (λ (n : ℕ). Sound n u) (sym e) (st₂ .sound)) (written s t out h)
     (subst (λ (n : ℕ). BookOf n u (take c₂ out₂′)) (sym e) (written s₂ u out₂ h₂))

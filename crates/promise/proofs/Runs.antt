@@ -20,10 +20,9 @@ use Rattle.promise.specs.declared.Reply.{Reply}
 use Rattle.promise.specs.Calls.{Owed}
 use Rattle.promise.specs.Runs.{StandsFor, Intake, taking, SaidBy, Fits, addedBy, Made, Run, FromFresh, callsOf}
 use Rattle.promise.specs.Runs.{UnlessRefused, Accepted, testsIn}
-use Rattle.promise.proofs.Standing.{standing-passed}
 use Rattle.promise.proofs.Calls.{changes-kept, changes-session}
 use Rattle.promise.proofs.Fresh.{fresh-stands, fresh-there, fresh-accepted}
-use Rattle.promise.proofs.Taking.{Leaves, leaves-stands}
+use Rattle.promise.proofs.Taking.{stands-of, Leaves, leaves-stands}
 use Rattle.promise.proofs.Tell.{tell-unique, tell-there, tell-opens, tell-leaves, tell-refused}
 use Rattle.promise.proofs.Clips.{clip-unique, clip-there, clip-session, clip-opens, clip-leaves, clip-refused}
 
@@ -172,7 +171,7 @@ module _ {n : ℕ} {t : List ℕ} {made : List Made} {s′ : Session} {t′ : Li
   pub fresh-run-most : s′ .tests + n ≤ n * n
   fresh-run-most =
       subst (λ (k : ℕ). s′ .tests + k ≤ k * k) fresh-run-classes
-      (omega (arith, standing-passed [] (fresh-run-stands h .stands) .0 .count))
+      (omega (arith, stands-of (fresh-run-stands h) .count))
 
   pub fresh-run-rest : SameRest n t t′
   fresh-run-rest =

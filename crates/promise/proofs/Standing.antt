@@ -38,13 +38,13 @@ not-four (inl e) f h = omega arith
 not-four (inr l) f h = omega arith
 
 pub standing-own :
-    (own : List Condition) {s : Session} {t : List ℕ} {k : ℕ} → (k ≡ 0) ⊎ (4 < k) → First (standing s t own) k
+    (own : List Condition) (s : Session) {t : List ℕ} {k : ℕ} → (k ≡ 0) ⊎ (4 < k) → First (standing s t own) k
     → Stands s t × First own k
-standing-own own z (inl p) = absurd (not-four z (p .1) (omega arith))
-standing-own own z (inr (p, inl q)) = absurd (not-four z (q .1) (omega arith))
-standing-own own z (inr (p, inr (q, inl r))) = absurd (not-four z (r .1) (omega arith))
-standing-own own z (inr (p, inr (q, inr (r, inl v)))) = absurd (not-four z (v .1) (omega arith))
-standing-own own {s} {t} z (inr (p, inr (q, inr (r, inr (v, w))))) = (
+standing-own own s z (inl p) = absurd (not-four z (p .1) (omega arith))
+standing-own own s z (inr (p, inl q)) = absurd (not-four z (q .1) (omega arith))
+standing-own own s z (inr (p, inr (q, inl r))) = absurd (not-four z (r .1) (omega arith))
+standing-own own s z (inr (p, inr (q, inr (r, inl v)))) = absurd (not-four z (v .1) (omega arith))
+standing-own own s {t} z (inr (p, inr (q, inr (r, inr (v, w))))) = (
   record {
     some = some;
     few = stable (decLe (s .classes) 128) (λ z. p (inr (omega arith)));
@@ -59,11 +59,11 @@ standing-own own {s} {t} z (inr (p, inr (q, inr (r, inr (v, w))))) = (
     some = stable (decLe 1 (s .classes)) (λ z. p (inl (omega arith)))
 
 pub standing-passed :
-    (own : List Condition) {s : Session} {t : List ℕ} → First (standing s t own) 0 → Stands s t × First own 0
-standing-passed own = standing-own own (inl refl)
+    (own : List Condition) (s : Session) {t : List ℕ} → First (standing s t own) 0 → Stands s t × First own 0
+standing-passed own s = standing-own own s (inl refl)
 
 pub stood : (s : Session) (t : List ℕ) (k : ℕ) → First (standing s t []) k → k ≡ 0 → Stands s t
-stood s t k h e = standing-passed [] (subst (λ (number : ℕ). First (standing s t []) number) e h) .0
+stood s t k h e = standing-passed [] s (subst (λ (number : ℕ). First (standing s t []) number) e h) .0
 
 pub stands-first :
     (own : List Condition) {s : Session} {t : List ℕ} {k : ℕ} → Stands s t → First (standing s t own) k → First own k
@@ -114,7 +114,7 @@ standing-there own s t later =
     stage 2 (decLt (length t) (s .classes * s .classes)) (λ p₂.
     stage 3 (negated (sound? (s .classes) t)) (λ p₃.
     stage 4 (decLt (s .classes * s .classes - s .classes) (s .tests + opens (s .classes) t)) (λ p₄.
-    later (standing-passed [] (inr (p₁, inr (p₂, inr (p₃, inr (p₄, refl))))) .0)))))
+    later (standing-passed [] s (inr (p₁, inr (p₂, inr (p₃, inr (p₄, refl))))) .0)))))
 
 -- two classes of which neither is n or more
 pub below-of : (n a b : ℕ) → ¬ ((n ≤ a) ⊎ (n ≤ b)) → (a < n) × (b < n)

@@ -23,7 +23,7 @@ pub record Leaves (F : Facts) (s : Session) (t : List ℕ) (s′ : Session) (t�
   pub count : s′ .tests + opens (s .classes) t′ ≤ s .tests + opens (s .classes) t
 
 pub stands-of : {S : Facts} {s : Session} {t : List ℕ} → StandsFor S s t → Stands s t
-stands-of h = standing-passed [] (h .stands) .0
+stands-of {s = s} h = standing-passed [] s (h .stands) .0
 
 module _ {F : Facts} {s : Session} {t : List ℕ} {s′ : Session} {t′ : List ℕ} (h : Leaves F s t s′ t′) where
   pub leaves-keeps : Stands s t → Stands s′ t′

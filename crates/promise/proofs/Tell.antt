@@ -55,7 +55,7 @@ pub tell-passed :
     (s : Session) (t : List ℕ) (f : Fact) → First (standing s t (tellRefusals s t f)) 0
     → Stands s t × Below (s .classes) f × (¬ Contradicts (s .classes) t f)
 tell-passed s t f h =
-    let p = standing-passed (tellRefusals s t f) h in
+    let p = standing-passed (tellRefusals s t f) s h in
     let q = own-passed s t f (p .1) in
     (p .0, q .0, q .1)
 

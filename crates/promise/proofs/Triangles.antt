@@ -51,7 +51,7 @@ pub hierarchy-room :
     (s : Session) (t heads steps : List ℕ) {o : Counted × (List ℕ × List ℕ)} → 128 ≤ length heads → 8192 ≤ length steps
     → Owed (hierarchy s t heads steps) o → countNumber (o .0) ≢ 8
 hierarchy-room s t heads steps {o} many room h e =
-    let p = standing-own (hierarchyRefusals s t heads steps) (inr (omega arith)) (h .number) in go (p .0) (p .1)
+    let p = standing-own (hierarchyRefusals s t heads steps) s (inr (omega arith)) (h .number) in go (p .0) (p .1)
   where
     go : Stands s t → First (hierarchyRefusals s t heads steps) (countNumber (o .0)) → ⊥
     go st (inl (_, k)) = omega arith

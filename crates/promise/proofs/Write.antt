@@ -73,4 +73,4 @@ module _ (s : Session) (t out : List ℕ) where
   pub write-length : {o : Counted × List ℕ} → Owed (write s t out) o → length (o .1) ≡ length out
   write-length =
       writes-length (standing s t (writeRefusals s t out)) (BookOf (s .classes) t) out (λ f.
-      room (standing-passed (writeRefusals s t out) f .1))
+      room (standing-passed (writeRefusals s t out) s f .1))
