@@ -10,7 +10,7 @@ use native.Mathlib.Omega.{arith}
 use lib.ListN.{length}
 use Rattle.order.specs.Tables.{Sound, opens}
 use Rattle.promise.specs.Refusals.{Condition, First, standing}
-use Rattle.order.proofs.Decide.{stable, either, negated}
+use Rattle.order.proofs.Decide.{stable, either, negated, as-well}
 use Rattle.promise.proofs.Refusals.{stage}
 use Rattle.order.proofs.Sound.{sound?}
 use Rattle.promise.specs.declared.Session.{Session}
@@ -50,13 +50,16 @@ standing-own own s {t} z (inr (p, inr (q, inr (r, inr (v, w))))) = (
     few = stable (decLe (s .classes) 128) (λ z. p (inr (omega arith)));
     room = omega arith;
     sound = stable (sound? (s .classes) t) r;
-    count = omega (arith, square-above (s .classes) some);
+    count = omega (arith, square-above (s .classes) some, in-bounds);
   },
   w,
 )
   where
     some : 1 ≤ s .classes
     some = stable (decLe 1 (s .classes)) (λ z. p (inl (omega arith)))
+
+    in-bounds : ¬ (s .classes * s .classes - s .classes < s .tests + opens (s .classes) t)
+    in-bounds z = v (record { exceeds = z })
 
 pub standing-passed :
     (own : List Condition) (s : Session) {t : List ℕ} → First (standing s t own) 0 → Stands s t × First own 0
@@ -71,7 +74,7 @@ stands-first own st (inl (inl e, _)) = absurd (omega (arith, st .some))
 stands-first own st (inl (inr e, _)) = absurd (omega (arith, st .few))
 stands-first own st (inr (_, inl (e, _))) = absurd (omega (arith, st .room))
 stands-first own st (inr (_, inr (_, inl (e, _)))) = absurd (e (st .sound))
-stands-first own st (inr (_, inr (_, inr (_, inl (e, _))))) = absurd (omega (arith, st .count))
+stands-first own st (inr (_, inr (_, inr (_, inl (e, _))))) = absurd (omega (arith, st .count, e .exceeds))
 stands-first own st (inr (_, inr (_, inr (_, inr (_, w))))) = w
 
 -- a refusal 1 to 4 comes before those of the call itself
@@ -101,7 +104,7 @@ first-stands own st h =
       ⊎-elim (λ e. omega (arith, st .some)) (λ e. omega (arith, st .few)),
       inr (
         λ e. omega (arith, st .room),
-        inr (λ e. e (st .sound), inr (λ e. omega (arith, st .count), h)),
+        inr (λ e. e (st .sound), inr (λ e. omega (arith, st .count, e .exceeds), h)),
       ),
     )
 
@@ -113,7 +116,9 @@ standing-there own s t later =
     stage 1 (either (ℕ-discrete (s .classes) 0) (decLt 128 (s .classes))) (λ p₁.
     stage 2 (decLt (length t) (s .classes * s .classes)) (λ p₂.
     stage 3 (negated (sound? (s .classes) t)) (λ p₃.
-    stage 4 (decLt (s .classes * s .classes - s .classes) (s .tests + opens (s .classes) t)) (λ p₄.
+    stage 4
+    (as-well (λ z. record { exceeds = z }) (λ e. e .exceeds)
+    (decLt (s .classes * s .classes - s .classes) (s .tests + opens (s .classes) t))) (λ p₄.
     later (standing-passed [] s (inr (p₁, inr (p₂, inr (p₃, inr (p₄, refl))))) .0)))))
 
 -- two classes of which neither is n or more

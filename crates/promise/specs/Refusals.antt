@@ -31,9 +31,11 @@ abbrev pub notSound : ℕ → List ℕ → Condition
 notSound n t = record { number = 3; when = ¬ Sound n t }
 
 -- "tally plus open pairs exceeds n*n-n"
+pub record Overcounted (s : Session) (t : List ℕ) : Type 0 where
+  pub exceeds : s .classes * s .classes - s .classes < s .tests + opens (s .classes) t
+
 abbrev pub overcounted : Session → List ℕ → Condition
-overcounted s t =
-    record { number = 4; when = s .classes * s .classes - s .classes < s .tests + opens (s .classes) t }
+overcounted s t = record { number = 4; when = Overcounted s t }
 
 -- "a class number is n or more"
 abbrev pub noSuchClass : Type 0 → Condition

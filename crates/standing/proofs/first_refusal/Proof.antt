@@ -50,21 +50,21 @@ returns-5 : tie.Need-returns-5
 returns-5 c =
     inr (
       range (c .before .before .before .before),
-      inr (λ l. omega arith, inr (sound (c .before), inl (omega arith, refl))),
+      inr (λ l. omega arith, inr (sound (c .before), inl (record { exceeds = omega arith }, refl))),
     )
 
 returns-6 : tie.Need-returns-6
 returns-6 c =
     inr (
       range (c .before .before .before .before .before .before),
-      inr (λ l. omega arith, inr (sound (c .before .before .before), inl (omega arith, refl))),
+      inr (λ l. omega arith, inr (sound (c .before .before .before), inl (record { exceeds = omega arith }, refl))),
     )
 
 returns-7 : tie.Need-returns-7
 returns-7 c =
     inr (
       range (c .before .before .before .before .before .before),
-      inr (λ l. omega arith, inr (sound (c .before .before .before), inr (λ l. omega arith, refl))),
+      inr (λ l. omega arith, inr (sound (c .before .before .before), inr (λ l. omega (arith, l .exceeds), refl))),
     )
 
 pub first-refusal-spec : {M : Type 1} → statement M
