@@ -3,9 +3,10 @@
 use mathlib.Core.Path.{_≡_}
 use mathlib.Core.Logic.{_≢_}
 use mathlib.Core.List.{List, [], _∷_, _++_}
-use Prim.Native.Nat.{ℕ, suc, _*_}
-use lib.ListN.{take}
+use Prim.Native.Nat.{ℕ, suc, _+_, _*_}
+use lib.ListN.{length, take}
 use Rattle.order.specs.Tables.{opens, Pair}
+use Rattle.promise.specs.Refusals.{First, tooLong}
 use Rattle.promise.specs.declared.Session.{Session}
 use Rattle.promise.specs.declared.Reply.{Reply}
 use Rattle.promise.specs.Next.{FirstOpen}
@@ -100,3 +101,11 @@ pub record Printed (book t text : List ℕ) : Type 0 where
   pub table : List ℕ
   pub read : BookRead book t reply table
   pub says : Says reply (marksOf (reply .session) table) text
+
+-- What is written of an input: the bytes that the program has read of it, and how many came behind them. "program only,
+-- before all others: input above 32,768 bytes"; "for 15 the place is 32768".
+pub record Output (held : List ℕ) (behind : ℕ) (t text : List ℕ) : Type 0 where
+  pub number : ℕ
+  pub first : First (tooLong (length held + behind) ∷ []) number
+  pub refused : number ≢ 0 → text ≡ refusalLine number 32768
+  pub accepted : number ≡ 0 → Printed held t text

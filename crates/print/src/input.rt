@@ -2,6 +2,7 @@
 use libc::STDIN_FILENO;
 ghost use Prim.Native.Nat.{_≤_};
 ghost use lib.ListN.{length};
+ghost use Rattle.print.specs.Answers.{Held};
 
 // What came of reading: how many bytes there are, and whether a read failed.
 pub struct Filled {
@@ -41,15 +42,31 @@ pub fn fill(input: &mut [u8]) -> Filled
     }
 }
 
-// What comes behind a full buffer: one byte more, if there is one. Nothing comes behind a buffer that the input did
-// not fill.
-pub fn behind(filled: Filled, room: usize) -> Filled {
-    if filled.count < room {
-        return Filled {
-            count: 0,
+// What standard input gave: how many bytes stand at the front of the buffer, how many came behind a full one, and
+// whether a read failed.
+pub struct Gathered {
+    pub count: usize,
+    pub behind: usize,
+    pub failed: bool,
+}
+
+// Fills the buffer, and where it is full asks for one byte more.
+pub fn gather(input: &mut [u8]) -> Gathered
+    ensures { λ r. ⌜ Held (now (input .exit)) (r .count) (r .behind) ⌝ }
+{
+    let filled = fill(&mut *input);
+    if filled.count < input.len() {
+        return Gathered {
+            count: filled.count,
+            behind: 0,
             failed: filled.failed,
         };
     }
     let mut byte: [u8; 1] = [0; 1];
-    fill(&mut byte)
+    let more = fill(&mut byte);
+    Gathered {
+        count: filled.count,
+        behind: more.count,
+        failed: more.failed,
+    }
 }

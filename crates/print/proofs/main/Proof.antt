@@ -9,19 +9,9 @@ use Rattle.print.proofs.main.Tie as tie
 
 slice-aggregate-write-all : tie.Need-slice-aggregate-write-all
 slice-aggregate-write-all c =
-    let said = c .before .before .report-too-long in
-    sym (length-take-le (said .result) (said .last .0) (omega (arith, said .ensures .fits, said .kept .0)))
-
-slice-aggregate-answer : tie.Need-slice-aggregate-answer
-slice-aggregate-answer c =
-    let filled = c .before .before .before .before .before .before .fill in
-    sym (length-take-le (filled .result .count) (filled .last .0) (filled .ensures))
-
-slice-aggregate-write-all-2 : tie.Need-slice-aggregate-write-all-2
-slice-aggregate-write-all-2 c =
-    let said = c .before .before .before .before .before .answer in
-    sym (length-take-le (said .result) (said .last .1 .1 .1 .1 .0)
-    (omega (arith, said .ensures .put .fits, said .kept .1 .1 .1 .1 .0)))
+    let said = c .before .before .before .before .before .decide in
+    sym (length-take-le (said .result) (said .last .1 .1 .1 .1 .1 .1 .0)
+    (omega (arith, said .ensures .put .fits, said .kept .1 .1 .1 .1 .1 .1 .0)))
 
 pub main-spec : {M : Type 1} → statement M
 main-spec =
@@ -30,22 +20,14 @@ main-spec =
     (λ c. search needs)
     (λ c κs. search needs)
     (λ c κs. search needs)
-    (λ c κs. search needs)
     (λ c. search needs)
     (λ c. search needs)
-    (λ c κs. search needs)
-    (λ c. search needs)
-    slice-aggregate-write-all
-    (λ c κs. search needs)
-    (λ c. search needs)
-    (λ c. search needs)
-    slice-aggregate-answer
     (λ c. search needs)
     (λ c. search needs)
     (λ c. search needs)
     (λ c. search needs)
     (λ c κs. search needs)
     (λ c. search needs)
-    slice-aggregate-write-all-2
+    slice-aggregate-write-all
     (λ c κs. search needs)
     (λ c. search needs))
