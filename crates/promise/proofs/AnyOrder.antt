@@ -1,12 +1,12 @@
 -- Calls on classes below n are accepted whole exactly when some order agrees with all that they say; so the order in
--- which they come, and which calls say it, make no difference.
+-- which they come, and which calls say it, make no difference; and more facts leave what is settled as it is.
 -- Assumes nothing.
 use mathlib.Core.Path.{_≡_, sym, _∙_, subst}
-use mathlib.Core.Logic.{_↔_, _⊎_, inl, inr}
-use mathlib.Core.List.{List, [], _∷_, List·Memᴰ·not-nil}
-use Prim.Native.Nat.{ℕ}
+use mathlib.Core.Logic.{_↔_, _≢_, _⊎_, inl, inr}
+use mathlib.Core.List.{List, [], _∷_, List·Memᴰ·head, List·Memᴰ·tail, List·Memᴰ·not-nil, List·Memᴰ·cases-cons}
+use Prim.Native.Nat.{ℕ, _<_}
 use Rattle.order.specs.Facts.{Fact, Facts, Listed, _and_, _⊆_, Within}
-use Rattle.order.specs.Tables.{TableOf}
+use Rattle.order.specs.Tables.{mark, TableOf}
 use Rattle.order.specs.Orders.{Possible}
 use Rattle.order.proofs.Sets.{entails-subset, within-and, none-and, and-left}
 use Rattle.order.proofs.Tables.{table-unique, table-of-equals}
@@ -14,10 +14,11 @@ use Rattle.order.proofs.Exactness.{possible-subset, table-possible}
 use Rattle.order.proofs.Bytes.{same-list, rest-sym, rest-trans}
 use Rattle.promise.specs.declared.Session.{Session}
 use Rattle.promise.specs.Runs.{StandsFor, Intake, SaidBy, Said, Fits, AllFit, Made, Run, FromFresh, callsOf}
-use Rattle.promise.specs.Runs.{Accepted, AllAccepted}
+use Rattle.promise.specs.Runs.{FactByFact, Accepted, AllAccepted}
 use Rattle.promise.proofs.Fresh.{fresh-stands}
 use Rattle.promise.proofs.Taking.{leaves-stands}
 use Rattle.promise.proofs.Runs.{intake-leaves, intake-accepted, run-stands, run-tests, run-rest, fresh-run-began}
+use Rattle.promise.proofs.Runs.{fresh-runs-agree}
 
 -- where all were accepted, the facts accepted are those said
 pub accepted-said : (n : ℕ) (made : List Made) → AllAccepted made → (f : Fact)
@@ -37,6 +38,43 @@ accepted-said n (m ∷ later) all f =
     back : Both → SaidBy n (m .call) f ⊎ Said n (callsOf later) f → SaidBy n (m .call) f ⊎ Accepted n later f
     back q (inl i) = inl i
     back q (inr i) = inr (q .1 i)
+
+-- "Hence, if one list of facts is contained in another and both are accepted whole, nothing settled by the first
+-- reads differently under the second": of any calls, by what they say
+pub contained-agree :
+    {n : ℕ} {t t₂ : List ℕ} {made made₂ : List Made} {s s₂ : Session} {u u₂ : List ℕ} → FromFresh n t made s u
+    → FromFresh n t₂ made₂ s₂ u₂ → AllAccepted made → AllAccepted made₂
+    → Said n (callsOf made) ⊆ Said n (callsOf made₂) → (a b : ℕ) → a < n → b < n
+    → mark n u a b ≢ 0 → mark n u₂ a b ≡ mark n u a b
+contained-agree {n} {made = made} {made₂ = made₂} h h₂ all all₂ i =
+    fresh-runs-agree h h₂ (λ f m. accepted-said n made₂ all₂ f .1 (i f (accepted-said n made all f .0 m)))
+
+-- facts taken in one by one say what is listed
+pub listed-said :
+    (n : ℕ) {l : List Fact} {calls : List Intake} → FactByFact l calls → (f : Fact) → Said n calls f ↔ Listed l f
+listed-said n FactByFact.none f = (λ i. absurd i, λ i. absurd (List·Memᴰ·not-nil i))
+listed-said n (FactByFact.first {f = g} {l = l} {later = later} each) f =
+    let q = listed-said n each f in (there q, λ i. back q (List·Memᴰ·cases-cons i))
+  where
+    Both : Type 0
+    Both = Said n later f ↔ Listed l f
+
+    there : Both → (f ≡ g) ⊎ Said n later f → Listed (g ∷ l) f
+    there q (inl e) = List·Memᴰ·head e
+    there q (inr i) = List·Memᴰ·tail (q .0 i)
+
+    back : Both → (f ≡ g) ⊎ Listed l f → (f ≡ g) ⊎ Said n later f
+    back q (inl e) = inl e
+    back q (inr i) = inr (q .1 i)
+
+-- and of two lists of facts, each fact told or given as an answer
+pub lists-agree :
+    {n : ℕ} {l l₂ : List Fact} {t t₂ : List ℕ} {made made₂ : List Made} {s s₂ : Session} {u u₂ : List ℕ}
+    → FactByFact l (callsOf made) → FactByFact l₂ (callsOf made₂) → FromFresh n t made s u
+    → FromFresh n t₂ made₂ s₂ u₂ → AllAccepted made → AllAccepted made₂ → Listed l ⊆ Listed l₂
+    → (a b : ℕ) → a < n → b < n → mark n u a b ≢ 0 → mark n u₂ a b ≡ mark n u a b
+lists-agree {n} each each₂ h h₂ all all₂ i =
+    contained-agree h h₂ all all₂ (λ f m. listed-said n each₂ f .1 (i f (listed-said n each f .0 m)))
 
 -- what calls that fit say is on classes below n
 all-within : (n : ℕ) (calls : List Intake) → AllFit n calls → Within n (Said n calls)

@@ -235,8 +235,8 @@ module _ {n : ℕ} {t : List ℕ} {made : List Made} {s′ : Session} {t′ : Li
   fresh-run-possible =
       subst (λ (k : ℕ). Possible k (Accepted n made)) fresh-run-classes (stands-possible (fresh-run-stands h))
 
--- "Hence, if one list of facts is contained in another and both are accepted whole, nothing settled by the first
--- reads differently under the second."
+-- The facts accepted by one run are among those accepted by another, refused calls among either: nothing settled by the
+-- first reads differently under the second.
 pub fresh-runs-agree :
     {n : ℕ} {t t₂ : List ℕ} {made made₂ : List Made} {s s₂ : Session} {u u₂ : List ℕ} → FromFresh n t made s u
     → FromFresh n t₂ made₂ s₂ u₂ → Accepted n made ⊆ Accepted n made₂ → (a b : ℕ) → a < n → b < n

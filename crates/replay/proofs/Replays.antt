@@ -26,7 +26,7 @@ use Rattle.promise.proofs.Clips.{clip-same-members}
 use Rattle.promise.proofs.Fresh.{fresh-unique}
 use Rattle.promise.proofs.Runs.{run-unique, run-then, calls-then, fresh-run-exact, fresh-run-refused, fresh-run-tests}
 use Rattle.promise.proofs.Runs.{fresh-run-accepted, fresh-run-possible, fresh-runs-agree}
-use Rattle.promise.proofs.AnyOrder.{fresh-run-whole}
+use Rattle.promise.proofs.AnyOrder.{contained-agree, fresh-run-whole}
 use Rattle.replay.specs.Replay.{clipFlags, callOf, callAt, firstCalls, allCalls, Ran, Replayed}
 
 -- the first i calls of a list, made from a session and a table
@@ -119,15 +119,24 @@ module _ {n : ℕ} {t numbers : List ℕ} {flags : List Bool} {r : Reply} {t′ 
   pub replay-tests : r .session .tests ≡ testsIn (h .ran z .run .run)
   replay-tests = fresh-run-tests (h .ran z .run)
 
--- "Hence, if one list of facts is contained in another and both are accepted whole, nothing settled by the first
--- reads differently under the second."
-pub replays-agree :
-    {n : ℕ} {t t₂ numbers numbers₂ : List ℕ} {flags flags₂ : List Bool} {r r₂ : Reply} {u u₂ : List ℕ}
-    (h : Replayed n t numbers flags r u)
-    (h₂ : Replayed n t₂ numbers₂ flags₂ r₂ u₂) (z : r .number ≡ 0) (z₂ : r₂ .number ≡ 0)
-    → Accepted n (h .ran z .made) ⊆ Accepted n (h₂ .ran z₂ .made) → (a b : ℕ) → a < n → b < n
-    → mark n u a b ≢ 0 → mark n u₂ a b ≡ mark n u a b
-replays-agree h h₂ z z₂ = fresh-runs-agree (h .ran z .run) (h₂ .ran z₂ .run)
+-- two replays that fresh did not refuse
+module _ {n : ℕ} {t t₂ numbers numbers₂ : List ℕ} {flags flags₂ : List Bool} {r r₂ : Reply} {u u₂ : List ℕ}
+    (h : Replayed n t numbers flags r u) (h₂ : Replayed n t₂ numbers₂ flags₂ r₂ u₂) (z : r .number ≡ 0)
+    (z₂ : r₂ .number ≡ 0) where
+  -- "Hence, if one list of facts is contained in another and both are accepted whole, nothing settled by the first
+  -- reads differently under the second": by what the calls say
+  pub contained-replays-agree :
+      AllAccepted (h .ran z .made) → AllAccepted (h₂ .ran z₂ .made)
+      → Said n (allCalls numbers flags) ⊆ Said n (allCalls numbers₂ flags₂) → (a b : ℕ) → a < n → b < n
+      → mark n u a b ≢ 0 → mark n u₂ a b ≡ mark n u a b
+  contained-replays-agree all all₂ i =
+      contained-agree (h .ran z .run) (h₂ .ran z₂ .run) all all₂ (rw (h .ran z .same, h₂ .ran z₂ .same) i)
+
+  -- the facts accepted by one are among those accepted by the other, refused calls among either
+  pub replays-agree :
+      Accepted n (h .ran z .made) ⊆ Accepted n (h₂ .ran z₂ .made) → (a b : ℕ) → a < n → b < n
+      → mark n u a b ≢ 0 → mark n u₂ a b ≡ mark n u a b
+  replays-agree = fresh-runs-agree (h .ran z .run) (h₂ .ran z₂ .run)
 
 -- no two outcomes of one replay
 pub replay-unique :
