@@ -5,11 +5,12 @@ use mathlib.Core.Logic.{inl}
 use mathlib.Core.List.{List, [], _∷_}
 use Prim.Native.Nat.{ℕ}
 use native.Mathlib.Omega.{arith}
-use Rattle.order.specs.Facts.{Facts, notUnder, Only}
+use Rattle.order.specs.Facts.{Facts, under, notUnder, Only, _with_, Within}
 use Rattle.order.specs.Tables.{mark, TableOf}
-use Rattle.order.specs.Orders.{Order, Agrees}
+use Rattle.order.specs.Orders.{Order, Agrees, Possible}
 use Rattle.order.proofs.Sets.{entails-subset, and-none}
 use Rattle.order.proofs.Tables.{table-unique, table-of-equals}
+use Rattle.order.proofs.Exactness.{open-possible}
 use Rattle.promise.specs.Tell.{Kind}
 use Rattle.promise.specs.Runs.{Intake, Made, Run, FromFresh}
 use Rattle.promise.proofs.Runs.{fresh-run-table}
@@ -58,3 +59,13 @@ open-apart h =
 
 pub p3-apart : Apart p3
 p3-apart = open-apart p3-table
+
+-- each of the two is possible by itself
+pub each-possible : Possible 3 (Known with under 0 1) × Possible 3 (Known with under 1 2)
+each-possible = (
+  open-possible within p3-table 0 1 (omega arith) (omega arith) (p3-apart .0) .0,
+  open-possible within p3-table 1 2 (omega arith) (omega arith) (p3-apart .1) .0,
+)
+  where
+    within : Within 3 Known
+    within f e = rw e (record { lower-below = omega arith; upper-below = omega arith })
