@@ -11,7 +11,7 @@ use Rattle.order.specs.Tables.{mark, Settles, Marks, Contradicts}
 use Rattle.order.proofs.Bytes.{rest-trans}
 use Rattle.order.proofs.Sets.{within-with}
 use Rattle.order.proofs.Tables.{sound-table, marks-within, mark-against-settled}
-use Rattle.order.proofs.Exactness.{consistent, contradicts-exact}
+use Rattle.order.proofs.Exactness.{consistent, fact-possible}
 use Rattle.order.proofs.Steps.{YesAfterYes, NoAfterYes, YesAfterNo, NoAfterNo, yes-after-yes-form, no-after-yes-form}
 use Rattle.order.proofs.Steps.{yes-after-no-form, no-after-no-form, yes-step, no-step}
 use Rattle.promise.specs.Clips.{Flagged}
@@ -26,8 +26,8 @@ never-both :
 never-both {n} {t} f h x y hx hy =
     let below : Below n f = record { lower-below = h .lower-below; upper-below = h .upper-below } in
     let open-pair : ¬ Contradicts n t f = λ z. mark-against-settled (f .holds) (sym z ∙ h .is-open) in
-    consistent (within-with marks-within below)
-    (λ z. open-pair (contradicts-exact marks-within (sound-table (h .sound)) f below .1 z)) hx hy
+    consistent (within-with marks-within below) (fact-possible marks-within (sound-table (h .sound)) f below open-pair)
+    hx hy
 
 -- what a known mark settles, where not both can be
 yes-settled : {m : ℕ} {Y N : Type 0} → (Y → N → ⊥) → m ≡ 1 → Y → Settles m Y N

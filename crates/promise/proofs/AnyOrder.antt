@@ -1,24 +1,24 @@
 -- Calls on classes below n are accepted whole exactly when some order agrees with all that they say; so the order in
--- which they come, and which calls say it, make no difference.
+-- which they come, and which calls say it, make no difference; and more facts leave what is settled as it is.
 -- Assumes nothing.
 use mathlib.Core.Path.{_≡_, sym, _∙_, subst}
-use mathlib.Core.Logic.{_↔_, _⊎_, inl, inr}
-use mathlib.Core.List.{List, [], _∷_}
-use Prim.Native.Nat.{ℕ}
-use native.Mathlib.Decide.{ℕ-discrete}
-use Rattle.order.specs.Facts.{Fact, Facts, _and_, _⊆_, Within}
-use Rattle.order.specs.Tables.{TableOf}
-use Rattle.order.specs.Orders.{Impossible}
-use Rattle.order.proofs.Decide.{stable}
-use Rattle.order.proofs.Sets.{entails-subset, within-and, and-left}
+use mathlib.Core.Logic.{_↔_, _≢_, _⊎_, inl, inr}
+use mathlib.Core.List.{List, [], _∷_, List·Memᴰ·head, List·Memᴰ·tail, List·Memᴰ·not-nil, List·Memᴰ·cases-cons}
+use Prim.Native.Nat.{ℕ, _<_}
+use Rattle.order.specs.Facts.{Fact, Facts, Listed, _and_, _⊆_, Within}
+use Rattle.order.specs.Tables.{mark, TableOf}
+use Rattle.order.specs.Orders.{Possible}
+use Rattle.order.proofs.Sets.{entails-subset, within-and, none-and, and-left}
 use Rattle.order.proofs.Tables.{table-unique, table-of-equals}
-use Rattle.order.proofs.Exactness.{impossible-subset, table-possible}
+use Rattle.order.proofs.Exactness.{possible-subset, table-possible}
 use Rattle.order.proofs.Bytes.{same-list, rest-sym, rest-trans}
 use Rattle.promise.specs.declared.Session.{Session}
-use Rattle.promise.specs.Runs.{StandsFor, Intake, SaidBy, Said, Fits, AllFit, Made, Run, callsOf, Accepted}
-use Rattle.promise.specs.Runs.{AllAccepted}
+use Rattle.promise.specs.Runs.{StandsFor, Intake, SaidBy, Said, Fits, AllFit, Made, Run, FromFresh, callsOf}
+use Rattle.promise.specs.Runs.{FactByFact, Accepted, AllAccepted}
+use Rattle.promise.proofs.Fresh.{fresh-stands}
 use Rattle.promise.proofs.Taking.{leaves-stands}
-use Rattle.promise.proofs.Runs.{intake-leaves, intake-contradicted, run-stands, run-tests, run-rest}
+use Rattle.promise.proofs.Runs.{intake-leaves, intake-accepted, run-stands, run-tests, run-rest, fresh-run-began}
+use Rattle.promise.proofs.Runs.{fresh-runs-agree}
 
 -- where all were accepted, the facts accepted are those said
 pub accepted-said : (n : ℕ) (made : List Made) → AllAccepted made → (f : Fact)
@@ -39,6 +39,43 @@ accepted-said n (m ∷ later) all f =
     back q (inl i) = inl i
     back q (inr i) = inr (q .1 i)
 
+-- "Hence, if one list of facts is contained in another and both are accepted whole, nothing settled by the first
+-- reads differently under the second": of any calls, by what they say
+pub contained-agree :
+    {n : ℕ} {t t₂ : List ℕ} {made made₂ : List Made} {s s₂ : Session} {u u₂ : List ℕ} → FromFresh n t made s u
+    → FromFresh n t₂ made₂ s₂ u₂ → AllAccepted made → AllAccepted made₂
+    → Said n (callsOf made) ⊆ Said n (callsOf made₂) → (a b : ℕ) → a < n → b < n
+    → mark n u a b ≢ 0 → mark n u₂ a b ≡ mark n u a b
+contained-agree {n} {made = made} {made₂ = made₂} h h₂ all all₂ i =
+    fresh-runs-agree h h₂ (λ f m. accepted-said n made₂ all₂ f .1 (i f (accepted-said n made all f .0 m)))
+
+-- facts taken in one by one say what is listed
+pub listed-said :
+    (n : ℕ) {l : List Fact} {calls : List Intake} → FactByFact l calls → (f : Fact) → Said n calls f ↔ Listed l f
+listed-said n FactByFact.none f = (λ i. absurd i, λ i. absurd (List·Memᴰ·not-nil i))
+listed-said n (FactByFact.first {f = g} {l = l} {later = later} each) f =
+    let q = listed-said n each f in (there q, λ i. back q (List·Memᴰ·cases-cons i))
+  where
+    Both : Type 0
+    Both = Said n later f ↔ Listed l f
+
+    there : Both → (f ≡ g) ⊎ Said n later f → Listed (g ∷ l) f
+    there q (inl e) = List·Memᴰ·head e
+    there q (inr i) = List·Memᴰ·tail (q .0 i)
+
+    back : Both → (f ≡ g) ⊎ Listed l f → (f ≡ g) ⊎ Said n later f
+    back q (inl e) = inl e
+    back q (inr i) = inr (q .1 i)
+
+-- and of two lists of facts, each fact told or given as an answer
+pub lists-agree :
+    {n : ℕ} {l l₂ : List Fact} {t t₂ : List ℕ} {made made₂ : List Made} {s s₂ : Session} {u u₂ : List ℕ}
+    → FactByFact l (callsOf made) → FactByFact l₂ (callsOf made₂) → FromFresh n t made s u
+    → FromFresh n t₂ made₂ s₂ u₂ → AllAccepted made → AllAccepted made₂ → Listed l ⊆ Listed l₂
+    → (a b : ℕ) → a < n → b < n → mark n u a b ≢ 0 → mark n u₂ a b ≡ mark n u a b
+lists-agree {n} each each₂ h h₂ all all₂ i =
+    contained-agree h h₂ all all₂ (λ f m. listed-said n each₂ f .1 (i f (listed-said n each f .0 m)))
+
 -- what calls that fit say is on classes below n
 all-within : (n : ℕ) (calls : List Intake) → AllFit n calls → Within n (Said n calls)
 all-within n [] fit f i = absurd i
@@ -49,7 +86,7 @@ all-within n (Intake.clipped played ∷ later) fit f (inr i) = all-within n late
 
 possible-accepted :
     {n : ℕ} (S : Facts) {s s′ : Session} {t t′ : List ℕ} {made : List Made} → s .classes ≡ n → StandsFor S s t
-    → AllFit n (callsOf made) → Run s t made s′ t′ → ¬ Impossible n (S and Said n (callsOf made)) → AllAccepted made
+    → AllFit n (callsOf made) → Run s t made s′ t′ → Possible n (S and Said n (callsOf made)) → AllAccepted made
 possible-accepted S c st fit Run.stop possible = tt
 possible-accepted {n} S {s} {s′} {t} {t′} c st fit (Run.call {m = m} {later = later} {t₁ = t₁} {r = r} h e run)
     possible =
@@ -57,7 +94,7 @@ possible-accepted {n} S {s} {s′} {t} {t′} c st fit (Run.call {m = m} {later 
       sym e ∙ first,
       possible-accepted (S and SaidBy n (m .call)) (l .classes ∙ c)
           (subst (λ (k : ℕ). StandsFor (S and SaidBy k (m .call)) (r .session) t₁) c (leaves-stands l st)) (fit .1) run
-          (λ x. possible (impossible-subset (and-left S (SaidBy n (m .call)) (Said n (callsOf later))) x)),
+          (possible-subset (and-left S (SaidBy n (m .call)) (Said n (callsOf later))) possible),
     )
   where
     fewer : (S and SaidBy n (m .call)) ⊆ (S and Said n (m .call ∷ callsOf later))
@@ -68,9 +105,7 @@ possible-accepted {n} S {s} {s′} {t} {t′} c st fit (Run.call {m = m} {later 
     fits = rw c (fit .0)
 
     first : r .number ≡ 0
-    first =
-        stable (ℕ-discrete (r .number) 0) (λ z.
-        possible (impossible-subset fewer (rw c at (intake-contradicted (m .call) s t st fits h .0 .0 z))))
+    first = intake-accepted (m .call) s t st fits h .1 (rw c (possible-subset fewer possible))
 
 module _
     {n : ℕ} (S : Facts) {s s′ : Session} {t t′ : List ℕ} {made : List Made} (c : s .classes ≡ n) (st : StandsFor S s t)
@@ -90,11 +125,21 @@ module _
       meant f (inr i) = inr (accepted-said n made all f .0 i)
 
   -- calls are accepted whole exactly when some order agrees with all that they say and the facts before
-  pub run-whole : AllFit n (callsOf made) → AllAccepted made ↔ (¬ Impossible n (S and Said n (callsOf made)))
+  pub run-whole : AllFit n (callsOf made) → AllAccepted made ↔ Possible n (S and Said n (callsOf made))
   run-whole fit = (
     λ all. table-possible (within-and (rw c at (st .within)) (all-within n (callsOf made) fit)) (whole-table all),
     possible-accepted S c st fit run,
   )
+
+-- and from fresh, where there are no facts before
+pub fresh-run-whole :
+    {n : ℕ} {t : List ℕ} {made : List Made} {s′ : Session} {t′ : List ℕ} → FromFresh n t made s′ t′
+    → AllFit n (callsOf made) → AllAccepted made ↔ Possible n (Said n (callsOf made))
+fresh-run-whole {n} {made = made} h fit =
+    let q = run-whole (Listed []) (fresh-run-began h) (fresh-stands (h .began) (h .accepted)) (h .run) fit in (
+      λ all. possible-subset (λ f i. inr i) (q .0 all),
+      λ p. q .1 (possible-subset (none-and (Said n (callsOf made)) (λ f i. List·Memᴰ·not-nil i)) p),
+    )
 
 -- two runs that say the same facts: both are accepted whole or neither is, and accepted they leave the same table
 pub runs-same :
@@ -114,10 +159,10 @@ runs-same {n} S {s} {s₁} {s₂} {t} {t₁} {t₂} {made} {made₂} c st fit fi
     more f (inr i) = inr (same f .1 i)
 
     there : AllAccepted made → AllAccepted made₂
-    there all = run-whole S c st run₂ fit₂ .1 (λ x. run-whole S c st run fit .0 all (impossible-subset more x))
+    there all = run-whole S c st run₂ fit₂ .1 (possible-subset more (run-whole S c st run fit .0 all))
 
     back : AllAccepted made₂ → AllAccepted made
-    back all = run-whole S c st run fit .1 (λ x. run-whole S c st run₂ fit₂ .0 all (impossible-subset less x))
+    back all = run-whole S c st run fit .1 (possible-subset less (run-whole S c st run₂ fit₂ .0 all))
 
     left : AllAccepted made → t₁ ≡ t₂
     left all =

@@ -26,4 +26,5 @@ pub mod Mantel
 pub mod Triangles
 pub mod Table
 pub mod Worked
+pub mod OpenPairs
 pub mod WrongAnswers

@@ -22,13 +22,14 @@ use Rattle.promise.specs.declared.Reply.{Reply}
 use Rattle.promise.specs.Calls.{refusal, Owed}
 use Rattle.promise.specs.Tell.{Kind, tell}
 use Rattle.promise.specs.Clips.{Flagged, ClipNo, MemberBeyond, clip}
-use Rattle.promise.specs.Runs.{StandsFor, Intake, taking, Said, AllFit, Made, Run, callsOf, AllAccepted}
+use Rattle.promise.specs.Runs.{StandsFor, Intake, taking, Said, FactByFact, AllFit, Made, Run, callsOf}
+use Rattle.promise.specs.Runs.{AllAccepted}
 use Rattle.promise.proofs.Flags.{flagged?}
 use Rattle.promise.proofs.Standing.{standing-passed}
 use Rattle.promise.proofs.Calls.{changes-kept, changes-session}
 use Rattle.promise.proofs.Clips.{clip-refused}
 use Rattle.promise.proofs.Runs.{run-there, firstOr, rest}
-use Rattle.promise.proofs.AnyOrder.{runs-same}
+use Rattle.promise.proofs.AnyOrder.{listed-said, runs-same}
 
 -- The noes of a clip as a list.
 
@@ -97,21 +98,12 @@ abbrev pub tellsOf : List Fact → List Intake
 tellsOf [] = []
 tellsOf (f ∷ l) = Intake.fact Kind.told f ∷ tellsOf l
 
+fact-by-fact : (l : List Fact) → FactByFact l (tellsOf l)
+fact-by-fact [] = FactByFact.none
+fact-by-fact (f ∷ l) = FactByFact.first (fact-by-fact l)
+
 tells-said : (n : ℕ) (l : List Fact) (f : Fact) → Said n (tellsOf l) f ↔ Listed l f
-tells-said n [] f = (λ i. absurd i, λ i. absurd (List·Memᴰ·not-nil i))
-tells-said n (g ∷ l) f =
-    let later = tells-said n l f in (there later, λ i. back later (List·Memᴰ·cases-cons i))
-  where
-    Both : Type 0
-    Both = Said n (tellsOf l) f ↔ Listed l f
-
-    there : Both → (f ≡ g) ⊎ Said n (tellsOf l) f → Listed (g ∷ l) f
-    there later (inl e) = List·Memᴰ·head e
-    there later (inr i) = List·Memᴰ·tail (later .0 i)
-
-    back : Both → (f ≡ g) ⊎ Listed l f → (f ≡ g) ⊎ Said n (tellsOf l) f
-    back later (inl e) = inl e
-    back later (inr i) = inr (later .1 i)
+tells-said n l = listed-said n (fact-by-fact l)
 
 tells-fit : (n : ℕ) (l : List Fact) → ((f : Fact) → Listed l f → Below n f) → AllFit n (tellsOf l)
 tells-fit n [] all = tt

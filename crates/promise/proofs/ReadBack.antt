@@ -1,7 +1,7 @@
 -- A book that is written and read back: the marks are the same, and the tally is 0.
 -- Assumes nothing.
 use mathlib.Core.Path.{_≡_, refl, sym, _∙_, ap, subst}
-use mathlib.Core.Logic.{_↔_, _≢_, inl, inr}
+use mathlib.Core.Logic.{_↔_, inl, inr}
 use mathlib.Core.Bool.{Bool, true, false}
 use mathlib.Core.List.{List, [], _∷_, _++_, append-nil, List·Memᴰ, List·Memᴰ·head, List·Memᴰ·tail, List·Memᴰ·not-nil}
 use Prim.Native.Nat.{ℕ, _+_, _*_, _≤_, _<_}
@@ -11,13 +11,13 @@ use lib.ListN.{length, take, drop}
 use lib.Seq.{take-at}
 use Rattle.order.specs.Facts.{Fact, Facts, factOn, _and_, _with_, _⊆_, Listed, Within, Chain}
 use Rattle.order.specs.Tables.{mark, Sound, Marks, SameMarks, TableOf, markFor, Pair, bytesOf}
-use Rattle.order.specs.Orders.{Impossible}
+use Rattle.order.specs.Orders.{Possible}
 use Rattle.promise.specs.Refusals.{First, badVerdict}
 use Rattle.promise.proofs.Refusals.{first-unique}
 use Rattle.order.proofs.Sets.{and-none, none-and, Settled, Follows as Entailed, entails-subset, follows-one}
 use Rattle.order.proofs.Sets.{with-listed, listed-with}
 use Rattle.order.proofs.Tables.{marks-within, sound-table, table-unique, table-of-equals}
-use Rattle.order.proofs.Exactness.{impossible-subset, table-possible}
+use Rattle.order.proofs.Exactness.{possible-subset, table-possible}
 use Rattle.promise.specs.declared.Stage.the-variants.{Start, Begun}
 use Rattle.promise.specs.declared.Session.{Session}
 use Rattle.promise.specs.declared.Reply.{Reply}
@@ -26,15 +26,15 @@ use Rattle.promise.specs.declared.Counted.the-variants.{Count}
 use Rattle.promise.specs.Calls.{noSession, started, accepted, Owed, countFor}
 use Rattle.promise.specs.Clips.{truthOf}
 use Rattle.promise.specs.Tell.{Kind, tell}
-use Rattle.promise.specs.Runs.{StandsFor}
+use Rattle.promise.specs.Runs.{StandsFor, Intake}
 use Rattle.promise.specs.Book.{fieldRefusals, Item, itemsOf, factOf, GoesOn, Follows, BookRead, field}
 use Rattle.promise.specs.Book.{PairsMarked, BookOf, writeRefusals, write}
 use Rattle.promise.proofs.Standing.{standing-passed}
 use Rattle.promise.proofs.Calls.{changes-session}
 use Rattle.promise.proofs.Fresh.{fresh-accepted, fresh-stands}
 use Rattle.promise.proofs.Taking.{leaves-stands}
-use Rattle.promise.proofs.Tell.{tell-leaves, tell-refused}
-use Rattle.promise.proofs.Runs.{stands-equal}
+use Rattle.promise.proofs.Tell.{tell-leaves}
+use Rattle.promise.proofs.Runs.{stands-equal, intake-accepted}
 use Rattle.promise.proofs.BookSays.{tellsOf, pairFields, secondAt, pairItems, fields-fine, book-items}
 use Rattle.promise.proofs.BookSays.{factsSaid, book-says, books-equal}
 
@@ -58,7 +58,7 @@ tells-told S v at (p ∷ l) items hv h after = (
 )
 
 -- Told facts that all stand in G, which some order agrees with, are all accepted, and none counts.
-module _ (n : ℕ) (G : Facts) (within : Within n G) (possible : ¬ Impossible n G) where
+module _ (n : ℕ) (G : Facts) (within : Within n G) (possible : Possible n G) where
   told-accepted :
       (items : List Item) (S : Facts) (t t′ : List ℕ) {r : Reply} → S ⊆ G → AllTold G items → StandsFor S (started n) t
       → Follows items (started n) t r t′
@@ -85,15 +85,17 @@ module _ (n : ℕ) (G : Facts) (within : Within n G) (possible : ¬ Impossible n
       more g (inl m) = i g m
       more g (inr e) = rw e (l .2)
 
-      taken : ¬ (q .number ≢ 0)
-      taken z = possible (impossible-subset more (tell-refused Kind.told st (within f (l .2)) told .0 .0 z))
+      taken : q .number ≡ 0
+      taken =
+          intake-accepted (Intake.fact Kind.told f) (started n) t st (within f (l .2)) told .1
+          (possible-subset more possible)
 
       go :
           GoesOn (q .number) p (q .session) u r t′ (Follows items (q .session) u r t′)
           → (StandsFor (S with f) (started n) u → Follows items (started n) u r t′
           → (r ≡ accepted (started n)) × StandsFor ((S with f) and Listed (factsSaid items)) (started n) t′)
           → (r ≡ accepted (started n)) × StandsFor (S and Listed (f ∷ factsSaid items)) (started n) t′
-      go (inl (k, e)) later = absurd (taken k)
+      go (inl (k, e)) later = absurd (k taken)
       go (inr (k, e)) later =
           let same : q .session ≡ started n = changes-session told k in
           let x = later (rw same at (leaves-stands (tell-leaves Kind.told told k) st)) (rw same at e) in

@@ -10,11 +10,12 @@ use native.Mathlib.Omega.{arith}
 use lib.ListN.{length}
 use Rattle.order.specs.Facts.{Facts, _and_, _⊆_, Below}
 use Rattle.order.specs.Tables.{mark, TableOf, SameMarks, SameRest, opens}
-use Rattle.order.specs.Orders.{Impossible, Exact}
+use Rattle.order.specs.Orders.{Impossible, Possible, Exact}
+use Rattle.order.proofs.Decide.{stable}
 use Rattle.order.proofs.Sets.{entails-subset, and-none, none-and, and-left, and-right}
 use Rattle.order.proofs.Tables.{table-unique, table-of-equals, settled-stays}
 use Rattle.order.proofs.Bytes.{rest-refl, rest-trans}
-use Rattle.order.proofs.Exactness.{exact}
+use Rattle.order.proofs.Exactness.{possible-not, exact, table-possible}
 use Rattle.promise.specs.declared.Session.{Session}
 use Rattle.promise.specs.declared.Reply.{Reply}
 use Rattle.promise.specs.Calls.{Owed}
@@ -88,6 +89,20 @@ pub intake-contradicted :
 intake-contradicted (Intake.fact kind f) s t st b h = tell-refused kind st b h
 intake-contradicted (Intake.clipped played) s t st b h = clip-refused st b h
 
+-- some order agrees with the facts that a table stands for
+stands-possible : {S : Facts} {s : Session} {t : List ℕ} → StandsFor S s t → Possible (s .classes) S
+stands-possible st = table-possible (st .within) (st .table)
+
+-- a call is accepted exactly when some order agrees with what it says and the facts accepted before
+pub intake-accepted :
+    (c : Intake) (s : Session) (t : List ℕ) {S : Facts} {r : Reply} {t′ : List ℕ} → StandsFor S s t
+    → Fits (s .classes) c
+    → Owed (taking c s t) (r, t′) → (r .number ≡ 0) ↔ Possible (s .classes) (S and SaidBy (s .classes) c)
+intake-accepted c s t {r = r} st b h = (
+  λ e. let l = intake-leaves c s t h e in rw (l .classes) at (stands-possible (leaves-stands l st)),
+  λ p. stable (ℕ-discrete (r .number) 0) (λ z. possible-not p (intake-contradicted c s t st b h .0 .0 z)),
+)
+
 -- what a run leaves stands for the facts it started from and those accepted
 pub run-stands :
     {n : ℕ} {S : Facts} {s s′ : Session} {t t′ : List ℕ} {made : List Made} → s .classes ≡ n → StandsFor S s t
@@ -119,14 +134,19 @@ run-stands {n} {S} {s} {s′} {t} {t′} c st (Run.call {m = m} {later = later} 
         none-said f (inl i) = inl i
         none-said f (inr i) = inr (none-and (Accepted n later) (λ g z. z) f i)
 
--- and one from fresh for the facts accepted
+-- fresh leaves a session of the class count that it was given
+pub fresh-run-began :
+    {n : ℕ} {t : List ℕ} {made : List Made} {s′ : Session} {t′ : List ℕ} (h : FromFresh n t made s′ t′)
+    → h .reply .session .classes ≡ n
+fresh-run-began h = ap (λ (s : Session). s .classes) (changes-session (h .began) (h .accepted))
+
+-- what a run from fresh leaves stands for the facts accepted
 pub fresh-run-stands :
     {n : ℕ} {t : List ℕ} {made : List Made} {s′ : Session} {t′ : List ℕ} → FromFresh n t made s′ t′
     → StandsFor (Accepted n made) s′ t′
 fresh-run-stands {n} {made = made} h =
     stands-equal (none-and (Accepted n made) (λ f i. List·Memᴰ·not-nil i)) (λ f m. inr m)
-    (run-stands (ap (λ (s : Session). s .classes) (changes-session (h .began) (h .accepted)))
-    (fresh-stands (h .began) (h .accepted)) (h .run))
+    (run-stands (fresh-run-began h) (fresh-stands (h .began) (h .accepted)) (h .run))
 
 -- the class count stays; the tally grows by the tests of the history; "From any moment on, answers counted since plus
 -- pairs still open never exceed the pairs open at that moment"
@@ -157,8 +177,7 @@ run-rest {s} {s′} {t} {t′} (Run.call {m = m} {t₁ = t₁} {r = r} h e run) 
 -- A run from fresh: demand 3 for its class count.
 module _ {n : ℕ} {t : List ℕ} {made : List Made} {s′ : Session} {t′ : List ℕ} (h : FromFresh n t made s′ t′) where
   pub fresh-run-classes : s′ .classes ≡ n
-  fresh-run-classes = run-tests (h .run) .0
-      ∙ ap (λ (s : Session). s .classes) (changes-session (h .began) (h .accepted))
+  fresh-run-classes = run-tests (h .run) .0 ∙ fresh-run-began h
 
   -- "The tally is therefore a number read off the history."
   pub fresh-run-tests : s′ .tests ≡ testsIn (h .run)
@@ -175,9 +194,7 @@ module _ {n : ℕ} {t : List ℕ} {made : List Made} {s′ : Session} {t′ : Li
 
   pub fresh-run-rest : SameRest n t t′
   fresh-run-rest =
-      let e : h .reply .session .classes ≡ n = ap (λ (s : Session). s .classes)
-      (changes-session (h .began) (h .accepted)) in
-      rest-trans (h .began .done (h .accepted) .rest) (rw e at (run-rest (h .run)))
+      rest-trans (h .began .done (h .accepted) .rest) (rw (fresh-run-began h) at (run-rest (h .run)))
 
   pub fresh-run-table : TableOf n (Accepted n made) t′
   fresh-run-table =
@@ -205,8 +222,21 @@ module _ {n : ℕ} {t : List ℕ} {made : List Made} {s′ : Session} {t′ : Li
       fresh-run-classes
       (intake-contradicted c s′ t′ (fresh-run-stands h) (rw fresh-run-classes b) makes)
 
--- "Hence, if one list of facts is contained in another and both are accepted whole, nothing settled by the first
--- reads differently under the second."
+  -- a call is accepted exactly when some order agrees with what it says and the facts accepted before
+  pub fresh-run-accepted :
+      (c : Intake) {r : Reply} {t″ : List ℕ} → Fits n c → Owed (taking c s′ t′) (r, t″)
+      → (r .number ≡ 0) ↔ Possible n (Accepted n made and SaidBy n c)
+  fresh-run-accepted c {r} {t″} b makes =
+      subst (λ (k : ℕ). (r .number ≡ 0) ↔ Possible k (Accepted n made and SaidBy k c)) fresh-run-classes
+      (intake-accepted c s′ t′ (fresh-run-stands h) (rw fresh-run-classes b) makes)
+
+  -- some order agrees with all accepted facts
+  pub fresh-run-possible : Possible n (Accepted n made)
+  fresh-run-possible =
+      subst (λ (k : ℕ). Possible k (Accepted n made)) fresh-run-classes (stands-possible (fresh-run-stands h))
+
+-- The facts accepted by one run are among those accepted by another, refused calls among either: nothing settled by the
+-- first reads differently under the second.
 pub fresh-runs-agree :
     {n : ℕ} {t t₂ : List ℕ} {made made₂ : List Made} {s s₂ : Session} {u u₂ : List ℕ} → FromFresh n t made s u
     → FromFresh n t₂ made₂ s₂ u₂ → Accepted n made ⊆ Accepted n made₂ → (a b : ℕ) → a < n → b < n

@@ -11,21 +11,23 @@ use lib.ListN.{take}
 use lib.Seq.{getD-take}
 use Rattle.order.specs.Facts.{factOn, _and_, _⊆_}
 use Rattle.order.specs.Tables.{mark}
-use Rattle.order.specs.Orders.{Impossible, Exact}
+use Rattle.order.specs.Orders.{Impossible, Possible, Exact}
 use Rattle.promise.specs.declared.Session.{Session}
 use Rattle.promise.specs.declared.Reply.{Reply}
 use Rattle.promise.specs.Calls.{accepted, Owed}
 use Rattle.promise.specs.Tell.{Kind, fresh, tell}
 use Rattle.promise.specs.Clips.{Flagged, clip}
-use Rattle.promise.specs.Runs.{Intake, taking, SaidBy, Fits, Made, Run, callsOf, Accepted, testsIn}
+use Rattle.promise.specs.Runs.{Intake, taking, SaidBy, Said, Fits, AllFit, Made, Run, callsOf, Accepted, AllAccepted}
+use Rattle.promise.specs.Runs.{testsIn}
 use Rattle.passes.proofs.Pass.{Gathered}
 use Rattle.clips.specs.Seen.{SameFlags}
 use Rattle.promise.proofs.Flags.{flag-there}
 use Rattle.promise.proofs.Clips.{clip-same-members}
 use Rattle.promise.proofs.Fresh.{fresh-unique}
 use Rattle.promise.proofs.Runs.{run-unique, run-then, calls-then, fresh-run-exact, fresh-run-refused, fresh-run-tests}
-use Rattle.promise.proofs.Runs.{fresh-runs-agree}
-use Rattle.replay.specs.Replay.{clipFlags, callOf, callAt, firstCalls, Ran, Replayed}
+use Rattle.promise.proofs.Runs.{fresh-run-accepted, fresh-run-possible, fresh-runs-agree}
+use Rattle.promise.proofs.AnyOrder.{contained-agree, fresh-run-whole}
+use Rattle.replay.specs.Replay.{clipFlags, callOf, callAt, firstCalls, allCalls, Ran, Replayed}
 
 -- the first i calls of a list, made from a session and a table
 pub record Made-so-far (s₀ : Session) (t₀ numbers : List ℕ) (flags : List Bool) (i : ℕ) (s : Session) (t : List ℕ) :
@@ -96,19 +98,45 @@ module _ {n : ℕ} {t numbers : List ℕ} {flags : List Bool} {r : Reply} {t′ 
       → ((r₂ .number ≢ 0) ↔ Impossible n (Accepted n made and SaidBy n c)) × (r₂ .number ≢ 0 → r₂ .number ≡ 6)
   replay-refused = fresh-run-refused (h .ran z .run)
 
+  -- a call is accepted exactly when some order agrees with what it says and the facts accepted before
+  pub replay-accepted :
+      (c : Intake) {r₂ : Reply} {t₂ : List ℕ} → Fits n c → Owed (taking c (r .session) t′) (r₂, t₂)
+      → (r₂ .number ≡ 0) ↔ Possible n (Accepted n made and SaidBy n c)
+  replay-accepted = fresh-run-accepted (h .ran z .run)
+
+  -- some order agrees with all accepted facts
+  pub replay-possible : Possible n (Accepted n made)
+  replay-possible = fresh-run-possible (h .ran z .run)
+
+  -- calls on classes below n are accepted whole exactly when some order agrees with all that they say
+  pub replay-whole :
+      AllFit n (allCalls numbers flags) → AllAccepted made ↔ Possible n (Said n (allCalls numbers flags))
+  replay-whole =
+      subst (λ (calls : List Intake). AllFit n calls → AllAccepted made ↔ Possible n (Said n calls)) (h .ran z .same)
+      (fresh-run-whole (h .ran z .run))
+
   -- "The tally is therefore a number read off the history."
   pub replay-tests : r .session .tests ≡ testsIn (h .ran z .run .run)
   replay-tests = fresh-run-tests (h .ran z .run)
 
--- "Hence, if one list of facts is contained in another and both are accepted whole, nothing settled by the first
--- reads differently under the second."
-pub replays-agree :
-    {n : ℕ} {t t₂ numbers numbers₂ : List ℕ} {flags flags₂ : List Bool} {r r₂ : Reply} {u u₂ : List ℕ}
-    (h : Replayed n t numbers flags r u)
-    (h₂ : Replayed n t₂ numbers₂ flags₂ r₂ u₂) (z : r .number ≡ 0) (z₂ : r₂ .number ≡ 0)
-    → Accepted n (h .ran z .made) ⊆ Accepted n (h₂ .ran z₂ .made) → (a b : ℕ) → a < n → b < n
-    → mark n u a b ≢ 0 → mark n u₂ a b ≡ mark n u a b
-replays-agree h h₂ z z₂ = fresh-runs-agree (h .ran z .run) (h₂ .ran z₂ .run)
+-- two replays that fresh did not refuse
+module _ {n : ℕ} {t t₂ numbers numbers₂ : List ℕ} {flags flags₂ : List Bool} {r r₂ : Reply} {u u₂ : List ℕ}
+    (h : Replayed n t numbers flags r u) (h₂ : Replayed n t₂ numbers₂ flags₂ r₂ u₂) (z : r .number ≡ 0)
+    (z₂ : r₂ .number ≡ 0) where
+  -- "Hence, if one list of facts is contained in another and both are accepted whole, nothing settled by the first
+  -- reads differently under the second": by what the calls say
+  pub contained-replays-agree :
+      AllAccepted (h .ran z .made) → AllAccepted (h₂ .ran z₂ .made)
+      → Said n (allCalls numbers flags) ⊆ Said n (allCalls numbers₂ flags₂) → (a b : ℕ) → a < n → b < n
+      → mark n u a b ≢ 0 → mark n u₂ a b ≡ mark n u a b
+  contained-replays-agree all all₂ i =
+      contained-agree (h .ran z .run) (h₂ .ran z₂ .run) all all₂ (rw (h .ran z .same, h₂ .ran z₂ .same) i)
+
+  -- the facts accepted by one are among those accepted by the other, refused calls among either
+  pub replays-agree :
+      Accepted n (h .ran z .made) ⊆ Accepted n (h₂ .ran z₂ .made) → (a b : ℕ) → a < n → b < n
+      → mark n u a b ≢ 0 → mark n u₂ a b ≡ mark n u a b
+  replays-agree = fresh-runs-agree (h .ran z .run) (h₂ .ran z₂ .run)
 
 -- no two outcomes of one replay
 pub replay-unique :

@@ -35,12 +35,16 @@ unfoldable pub firstCalls : List ℕ → List Bool → ℕ → List Intake
 firstCalls numbers flags zero = []
 firstCalls numbers flags (suc k) = firstCalls numbers flags k ++ callAt numbers flags k ∷ []
 
+-- all calls, four numbers to a call
+abbrev pub allCalls : List ℕ → List Bool → List Intake
+allCalls numbers flags = firstCalls numbers flags (length numbers / 4)
+
 -- "any run of tells and answers from a fresh table, refused ones among them, table and tally passed on untouched",
 -- with clips among them: the calls made are those of the list
 pub record Ran (n : ℕ) (t numbers : List ℕ) (flags : List Bool) (s′ : Session) (t′ : List ℕ) : Type 0 where
   pub made : List Made
   pub run : FromFresh n t made s′ t′
-  pub same : callsOf made ≡ firstCalls numbers flags (length numbers / 4)
+  pub same : callsOf made ≡ allCalls numbers flags
 
 -- where fresh refuses, its reply; otherwise the run
 pub record Replayed (n : ℕ) (t numbers : List ℕ) (flags : List Bool) (r : Reply) (t′ : List ℕ) : Type 0 where
