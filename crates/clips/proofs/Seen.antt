@@ -1,18 +1,18 @@
 -- What is seen of the flags before a clip is taken in, flag by flag; and flags that are bytes.
 -- Assumes nothing.
-use mathlib.Core.Path.{_≡_, refl, ap}
+use mathlib.Core.Path.{_≡_, refl}
 use mathlib.Core.Logic.{_↔_}
 use mathlib.Core.Bool.{Bool, true, false, _&&_, not, true≢false, false≢true}
-use mathlib.Core.List.{List, [], _∷_}
+use mathlib.Core.List.{List}
 use Prim.Native.Nat.{ℕ, zero, suc, _≤_, _<_}
 use native.Mathlib.Decide.{decLt}
 use native.Mathlib.Omega.{arith}
 use borrow.Author.Tests.{leb-false, lt-leb, eqb-true, eq-eqb, ne-eqb}
 use lib.Dec.{leb, eqb}
-use lib.ListN.{getD, length}
+use lib.ListN.{length}
 use Rattle.order.specs.Tables.{SomeContradicts}
 use Rattle.order.proofs.Decide.{stable}
-use Rattle.promise.specs.Clips.{truthOf, Flagged, flagsOf, ClipNo, MemberBeyond}
+use Rattle.promise.specs.Clips.{truthOf, Flagged, ClipNo, MemberBeyond}
 use Rattle.promise.proofs.Flags.{flagged?, flag-there}
 use Rattle.promise.proofs.Clips.{contrary, contrary-pair}
 use Rattle.passes.proofs.Pass.{Gathered}
@@ -64,16 +64,6 @@ pub one-agrees :
     → UnderMembers n t played a
 one-agrees {n} {t} {played} none ha p =
     record { at = λ b hb m. stable (flagged? played b) (λ q. none (contrary n played t ha hb ((p, q), m))) }
-
--- the flag of a class, read off its byte
-pub flag-read : (bytes : List ℕ) (a : ℕ) → getD (flagsOf bytes) a false ≡ truthOf (getD bytes a 0)
-flag-read [] a = refl
-flag-read (byte ∷ bytes) zero = refl
-flag-read (byte ∷ bytes) (suc a) = flag-read bytes a
-
-pub flags-length : (bytes : List ℕ) → length (flagsOf bytes) ≡ length bytes
-flags-length [] = refl
-flags-length (byte ∷ bytes) = ap suc (flags-length bytes)
 
 -- the test of a byte is its flag
 pub byte-set : (byte : ℕ) → not (eqb byte 0) ≡ truthOf byte

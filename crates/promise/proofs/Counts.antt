@@ -3,7 +3,7 @@
 -- Assumes nothing.
 use mathlib.Core.Path.{_≡_, refl, sym, _∙_, ap, subst}
 use mathlib.Core.List.{List, [], _∷_, _++_}
-use Prim.Native.Nat.{ℕ, _+_, _≤_, _<_}
+use Prim.Native.Nat.{ℕ, _≤_, _<_}
 use native.Mathlib.Decide.{ℕ-discrete, decLt}
 use native.Mathlib.Omega.{arith}
 use lib.ListN.{length, drop, length-append, length-drop}
@@ -12,7 +12,7 @@ use Rattle.promise.specs.Refusals.{Condition, First}
 use Rattle.promise.specs.declared.Session.{Session}
 use Rattle.promise.specs.declared.Counted.{Counted}
 use Rattle.promise.specs.declared.Counted.the-variants.{Count}
-use Rattle.promise.specs.Calls.{Owed, countNumber, openPairs, over, TooShort, writes}
+use Rattle.promise.specs.Calls.{Owed, countNumber, openPairs, over, TooShort, writes, countFor}
 use Rattle.promise.proofs.Standing.{standing-there}
 use Rattle.promise.proofs.Calls.{Fixed, owed-unique, owed-there}
 
@@ -55,6 +55,18 @@ module _ (refusals : List Condition) (P : List ℕ → Type 0) (out : List ℕ) 
   writes-there first made =
       owed-there (writes refusals P out) (λ k. refl) first (λ f.
       let w = made f in ((Count (length (w .0)), over (w .0) out), refl, (w .0, w .1, refl)))
+
+  -- accepted, what P has is counted, and written to the front
+  pub writes-wrote :
+      {c : ℕ} {out′ : List ℕ} → Owed (writes refusals P out) (Count c, out′)
+      → (w : List ℕ) × P w × (c ≡ length w) × (out′ ≡ over w out)
+  writes-wrote h =
+      let d = h .done refl in (
+        d .0,
+        d .1,
+        ap (λ (o : Counted × List ℕ). countFor (o .0) .count) (d .2),
+        ap (λ (o : Counted × List ℕ). o .1) (d .2),
+      )
 
   -- the length of a buffer stays
   pub writes-length :

@@ -1,26 +1,27 @@
--- Ladders: there is one, and one only, wherever a is under b; with each rung the number of heads strictly above it
--- and under the goal falls; one outcome of the call for each input.
+-- Ladders: there is one, and one only, wherever a is under b; equal classes give one rung; with each rung the number of
+-- heads strictly above it and under the goal falls; one outcome of the call for each input.
 -- Assumes nothing.
 use mathlib.Core.Path.{_≡_, refl, sym, _∙_, ap}
-use mathlib.Core.Logic.{_≢_, _⊎_, inl, inr}
+use mathlib.Core.Logic.{_↔_, _≢_, _⊎_, inl, inr}
 use mathlib.Core.List.{List, [], _∷_}
 use Prim.Native.Nat.{ℕ, zero, suc, _≤_, _<_}
 use native.Mathlib.Nat.{le-antisymm}
 use native.Mathlib.Decide.{ℕ-discrete, decLt, decLe}
 use native.Mathlib.Omega.{arith}
-use lib.ListN.{length}
+use lib.ListN.{length, getD}
 use Rattle.order.specs.Tables.{mark, Sound, opens}
 use Rattle.promise.specs.Refusals.{First, standing}
 use Rattle.order.proofs.Decide.{stable, both, either, negated, as-well, some-below, least}
 use Rattle.promise.proofs.Refusals.{stage}
 use Rattle.promise.specs.declared.Session.{Session}
 use Rattle.promise.specs.declared.Counted.{Counted}
+use Rattle.promise.specs.declared.Counted.the-variants.{Count}
 use Rattle.promise.specs.Calls.{Owed, countNumber, TooShort}
-use Rattle.promise.specs.Hierarchy.{Under, HeadOf, Head, Third, Direct, NextRung, Ladder, LadderOf, Above}
-use Rattle.promise.specs.Hierarchy.{Number, ladderRefusals, ladder}
+use Rattle.promise.specs.Hierarchy.{Under, Equal, HeadOf, Head, Third, Direct, NextRung, Ladder, LadderOf}
+use Rattle.promise.specs.Hierarchy.{Above, Number, ladderRefusals, ladder}
 use Rattle.promise.proofs.Standing.{Stands, standing-own, standing-passed, standing-there, below-of}
 use Rattle.promise.proofs.Calls.{Fixed, owed-unique}
-use Rattle.promise.proofs.Counts.{too-short?, writes-fixed, writes-there, writes-length}
+use Rattle.promise.proofs.Counts.{too-short?, writes-fixed, writes-there, writes-length, writes-wrote}
 use Rattle.promise.proofs.Hierarchy.{head-unique, head-head, head-there, heads-equal, head?, under?, direct?}
 use Rattle.promise.proofs.Hierarchy.{third?}
 
@@ -129,6 +130,38 @@ module _ (n : ℕ) (t : List ℕ) (sound : Sound n t) where
 
   pub ladder-unique : {a b : ℕ} → b < n → (l l₂ : List ℕ) → LadderOf n t a b l → LadderOf n t a b l₂ → l ≡ l₂
   ladder-unique hb l l₂ p q = ladder-same hb (head-unique (p .head) (q .head)) (p .rungs) (q .rungs)
+
+  -- "Equal classes give one rung", the head of both
+
+  pub ladder-equal :
+      {a b : ℕ} {l : List ℕ} → a < n → b < n → LadderOf n t a b l → Equal n t a b
+      → (h : ℕ) × HeadOf n t a h × HeadOf n t b h × (l ≡ h ∷ [])
+  ladder-equal ha hb p e =
+      let h = p .head in
+      let goal =
+      head-of-equal hb (head-head n t sound ha h) (through (h .below) ha hb (h .equal .1) (e .0))
+      (through hb ha (h .below) (e .1) (h .equal .0))
+      in
+      (p .start, h, goal, ladder-same hb refl (p .rungs) (Ladder.end goal))
+
+  -- and no others do
+
+  one-rung : {b rung : ℕ} {l : List ℕ} → Ladder n t b rung l → length l ≡ 1 → HeadOf n t b rung
+  one-rung (Ladder.end p) e = p
+  one-rung (Ladder.rung r (Ladder.end p)) e = absurd (omega arith)
+  one-rung (Ladder.rung r (Ladder.rung q m)) e = absurd (omega arith)
+
+  pub ladder-one :
+      {a b : ℕ} {l : List ℕ} → a < n → b < n → LadderOf n t a b l → (length l ≡ 1) ↔ Equal n t a b
+  ladder-one ha hb p = (
+    λ e.
+        let h = p .head in
+        let g = one-rung (p .rungs) e in (
+          through ha (h .below) hb (h .equal .0) (g .equal .1),
+          through hb (h .below) ha (g .equal .0) (h .equal .1),
+        ),
+    λ e. ap length (ladder-equal ha hb p e .3),
+  )
 
   -- "the number of heads strictly above the rung and under the goal falls"
   pub rung-falls :
@@ -320,6 +353,22 @@ module _ (s : Session) (t : List ℕ) (a b : ℕ) (out : List ℕ) where
   pub ladder-written-unique :
       {o o₂ : Counted × List ℕ} → Owed (ladder s t a b out) o → Owed (ladder s t a b out) o₂ → o ≡ o₂
   ladder-written-unique = owed-unique (ladder s t a b out) ladder-fixed
+
+  -- a ladder of one rung is written exactly for equal classes, and it is the head of both
+  pub ladder-written-equal :
+      {c : ℕ} {out′ : List ℕ} → Owed (ladder s t a b out) (Count c, out′)
+      → ((c ≡ 1) ↔ Equal (s .classes) t a b)
+      × (Equal (s .classes) t a b
+      → HeadOf (s .classes) t a (getD out′ 0 0) × HeadOf (s .classes) t b (getD out′ 0 0))
+  ladder-written-equal h =
+      let p = standing-passed (ladderRefusals s t a b out) s (h .number) in
+      let below = below-of (s .classes) a b (ladder-passed (p .1) .0) in
+      let w = writes-wrote (standing s t (ladderRefusals s t a b out)) (LadderOf (s .classes) t a b) out h in (
+        rw (w .2) (ladder-one (s .classes) t (p .0 .sound) (below .0) (below .1) (w .1)),
+        λ e.
+            let q = ladder-equal (s .classes) t (p .0 .sound) (below .0) (below .1) (w .1) e in
+            rw (w .3, q .3) (q .1, q .2),
+      )
 
   -- the length of the buffer stays
   pub ladder-length :

@@ -1,16 +1,28 @@
--- How long the book of a table is, and that each of its bytes is below 256.
+-- How long the book of a table is, that the longest one is written, and that each byte of a book is below 256.
 -- Assumes nothing.
-use mathlib.Core.Path.{_≡_, refl, _∙_, ap}
+use mathlib.Core.Path.{_≡_, refl, sym, _∙_, ap}
+use mathlib.Core.Logic.{_≢_, inr}
 use mathlib.Core.List.{List, [], _∷_, _++_, List·Memᴰ, List·Memᴰ·head, List·Memᴰ·tail}
 use Prim.Native.Nat.{ℕ, zero, suc, _+_, _*_, _≤_, _<_}
 use native.Mathlib.Nat.{suc-mul, mul-le-mul, mod-lt, div-lt-iff-lt-mul}
+use native.Mathlib.Decide.{ℕ-discrete}
 use native.Mathlib.Omega.{arith}
-use lib.ListN.{length, length-append}
-use Rattle.order.specs.Tables.{Pair, bytesOf}
+use lib.ListN.{length, length-append, replicate, length-replicate, getD-replicate}
+use Rattle.order.specs.Tables.{mark, Sound, isOpen, opens, Pair, bytesOf}
+use Rattle.order.proofs.Bytes.{pair-below}
+use Rattle.order.proofs.Tables.{Mark, which}
 use Rattle.order.proofs.Pairs.{length-bytes}
-use Rattle.order.proofs.Counting.{pairs-two}
-use Rattle.promise.specs.Book.{field, PairsMarked, BookOf}
-use Rattle.promise.proofs.Write.{off?}
+use Rattle.order.proofs.Counting.{bit, bit-one, bit-none, bit-two, sum-add, sum-off, sum-off-most, pairs-length}
+use Rattle.order.proofs.Counts.{open-settled, opens-none, opens-sum}
+use Rattle.promise.specs.Refusals.{standing}
+use Rattle.promise.specs.declared.Session.{Session}
+use Rattle.promise.specs.declared.Counted.the-variants.{Count}
+use Rattle.promise.specs.Calls.{started, Owed, over}
+use Rattle.promise.specs.Book.{field, PairsMarked, BookOf, writeRefusals, write}
+use Rattle.promise.proofs.Standing.{Stands, square-above, standing-passed, first-stands}
+use Rattle.promise.proofs.Calls.{owed-done}
+use Rattle.promise.proofs.Counts.{writes-wrote}
+use Rattle.promise.proofs.Write.{Off, off?, book-there}
 
 -- "10 + 2 times the count of both in bytes"
 pub book-length :
@@ -22,21 +34,113 @@ book-length h =
     ap (λ (l : List ℕ). length l) (h .bytes)
     ∙ omega (arith, length-append (field 2 ys) (field 3 zs), length-bytes (h .yes-pairs), length-bytes (h .no-pairs))
 
--- the pairs written are at most n * n - n
-book-pairs :
-    {n : ℕ} {t book : List ℕ} (h : BookOf n t book) → length (h .yes-pairs) + length (h .no-pairs) + n ≤ n * n
-book-pairs {n} {t} h =
-    pairs-two (off? n t 1) (off? n t 2) (λ a b p q. omega (arith, p .1, q .1))
-    (λ a. (λ p. p .0 refl, λ p. p .0 refl)) (h .yes-listed) (h .no-listed)
+-- of a pair with mark m: it is written once at most, and on the diagonal never
+module _ {m a b : ℕ} (p : Dec ((a ≢ b) × (m ≡ 1))) (q : Dec ((a ≢ b) × (m ≡ 2))) where
+  once : (d : Dec (a ≡ b)) → bit p + bit q + bit d ≤ 1
+  once (yes e) = omega (arith, bit-none p (λ z. z .0 e), bit-none q (λ z. z .0 e))
+  once (no e) = omega (arith, bit-two p q (λ x y. omega (arith, x .1, y .1)))
+
+  -- in a sound table it is written, open, or on the diagonal
+  written-or-open : m ≤ 2 → (a ≡ b → m ≡ 1) → (d : Dec (a ≡ b)) → bit p + bit q + isOpen m + bit d ≡ 1
+  written-or-open small diagonal (yes e) =
+      omega (arith, once (yes e), open-settled m (λ z. omega (arith, diagonal e)))
+  written-or-open small diagonal (no e) = go (which m small)
+    where
+      go : Mark m → bit p + bit q + isOpen m + 0 ≡ 1
+      go (Mark.is-open z) =
+          omega (arith, bit-none p (λ x. omega (arith, x .1)), bit-none q (λ x. omega (arith, x .1)), ap isOpen z)
+      go (Mark.is-yes z) = omega (arith, once (no e), bit-one p (e, z), open-settled m (λ x. omega arith))
+      go (Mark.is-no z) = omega (arith, once (no e), bit-one q (e, z), open-settled m (λ x. omega arith))
+
+module _ {n : ℕ} {t book : List ℕ} (h : BookOf n t book) where
+  -- the pairs written are at most n * n - n
+  book-pairs : length (h .yes-pairs) + length (h .no-pairs) + n ≤ n * n
+  book-pairs =
+      omega (
+        arith,
+        pairs-length (Off n t 1) (off? n t 1) (h .yes-listed),
+        pairs-length (Off n t 2) (off? n t 2) (h .no-listed),
+        simp sum-add at
+            (sum-off-most n (λ a b. bit (off? n t 1 a b) + bit (off? n t 2 a b)) (λ a b ha hb.
+            once (off? n t 1 a b) (off? n t 2 a b) (ℕ-discrete a b))),
+      )
+
+  -- each pair off the diagonal that is not open takes two bytes: a full book has 10 + 2 * (n * n - n)
+  pub book-opens : Sound n t → length book + 2 * (opens n t + n) ≡ 10 + 2 * (n * n)
+  book-opens sound =
+      omega (
+        arith,
+        book-length h,
+        opens-sum n t,
+        pairs-length (Off n t 1) (off? n t 1) (h .yes-listed),
+        pairs-length (Off n t 2) (off? n t 2) (h .no-listed),
+        simp sum-add at
+            (sum-off n (λ a b. bit (off? n t 1 a b) + bit (off? n t 2 a b) + isOpen (mark n t a b)) (λ a b ha hb.
+            written-or-open (off? n t 1 a b) (off? n t 2 a b) (sound .small a b ha hb)
+            (λ e. rw (← e) (sound .diagonal a ha)) (ℕ-discrete a b))),
+      )
 
 square-less : (n : ℕ) → n ≤ 128 → n * n ≤ 16256 + n
 square-less zero h = omega arith
 square-less (suc m) h =
     omega (arith, suc-mul m (suc m), mul-le-mul {n₁ = m} {m₁ = suc m} {n₂ = 127} {m₂ = 128} (omega arith) h)
 
--- "the longest full book has 32,522"
+-- "the longest full book has 32,522": no book has more, and write-longest has one
 pub book-longest : {n : ℕ} {t book : List ℕ} → BookOf n t book → n ≤ 128 → length book ≤ 32522
 book-longest {n} h few = omega (arith, book-length h, book-pairs h, square-less n few)
+
+-- and so many bytes write counts
+pub write-count :
+    (s : Session) (t out : List ℕ) {c : ℕ} {out′ : List ℕ} → Owed (write s t out) (Count c, out′)
+    → c + 2 * (opens (s .classes) t + s .classes) ≡ 10 + 2 * (s .classes * s .classes)
+write-count s t out h =
+    let w = writes-wrote (standing s t (writeRefusals s t out)) (BookOf (s .classes) t) out h in
+    rw (w .2) (book-opens (w .1) (standing-passed (writeRefusals s t out) s (h .number) .0 .sound))
+
+-- a table of n classes that are all equal: each of its marks is yes
+unfoldable pub allYes : ℕ → List ℕ
+allYes n = replicate (n * n) 1
+
+all-yes : (n a b : ℕ) → a < n → b < n → mark n (allYes n) a b ≡ 1
+unfolding mark allYes
+all-yes n a b ha hb = getD-replicate (n * n) (a * n + b) 1 0 (pair-below n a b ha hb)
+
+pub all-yes-full : (n : ℕ) → opens n (allYes n) ≡ 0
+all-yes-full n = opens-none n (allYes n) .1 (λ a b ha hb z. omega (arith, all-yes n a b ha hb))
+
+pub all-yes-stands : (n : ℕ) → 1 ≤ n → n ≤ 128 → Stands (started n) (allYes n)
+unfolding allYes
+all-yes-stands n some few =
+    record {
+      some = some;
+      few = few;
+      room = omega (arith, length-replicate {A = ℕ} (n * n) 1);
+      sound =
+          record {
+            small = λ a b ha hb. omega (arith, all-yes n a b ha hb);
+            diagonal = λ a ha. all-yes n a a ha ha;
+            transitive = λ a b c ha hb hc _ _. all-yes n a c ha hc;
+            pruned = λ a b c d ha hb hc hd e _ _. absurd (omega (arith, all-yes n c d hc hd));
+          };
+      count = omega (arith, all-yes-full n, square-above n some);
+    }
+
+-- its book, which is full, is the longest, and it is written
+pub write-longest :
+    (out : List ℕ) → 32522 ≤ length out
+    → (out′ : List ℕ) × Owed (write (started 128) (allYes 128) out) (Count 32522, out′)
+write-longest out room =
+    let t = allYes 128 in
+    let st = all-yes-stands 128 (omega arith) (omega arith) in
+    let (book, is) = book-there 128 t in
+    let size : length book ≡ 32522 = omega (arith, book-opens is (st .sound), all-yes-full 128) in (
+      over book out,
+      owed-done (write (started 128) t out)
+          (first-stands (writeRefusals (started 128) t out) st
+          (inr (λ z. omega (arith, z .2, book-longest (z .1) (omega arith)), refl)))
+          refl
+          (book, is, ap (λ (k : ℕ). (Count k, over book out)) (sym size)),
+    )
 
 -- each of its bytes is below 256
 

@@ -1,6 +1,6 @@
 -- A book that is written and read back: the marks are the same, and the tally is 0.
 -- Assumes nothing.
-use mathlib.Core.Path.{_≡_, refl, sym, _∙_, ap, subst}
+use mathlib.Core.Path.{_≡_, refl, sym, ap, subst}
 use mathlib.Core.Logic.{_↔_, inl, inr}
 use mathlib.Core.Bool.{Bool, true, false}
 use mathlib.Core.List.{List, [], _∷_, _++_, append-nil, List·Memᴰ, List·Memᴰ·head, List·Memᴰ·tail, List·Memᴰ·not-nil}
@@ -12,7 +12,7 @@ use lib.Seq.{take-at}
 use Rattle.order.specs.Facts.{Fact, Facts, factOn, _and_, _with_, _⊆_, Listed, Within, Chain}
 use Rattle.order.specs.Tables.{mark, Sound, Marks, SameMarks, TableOf, markFor, Pair, bytesOf}
 use Rattle.order.specs.Orders.{Possible}
-use Rattle.promise.specs.Refusals.{First, badVerdict}
+use Rattle.promise.specs.Refusals.{First, badVerdict, standing}
 use Rattle.promise.proofs.Refusals.{first-unique}
 use Rattle.order.proofs.Sets.{and-none, none-and, Settled, Follows as Entailed, entails-subset, follows-one}
 use Rattle.order.proofs.Sets.{with-listed, listed-with}
@@ -21,9 +21,8 @@ use Rattle.order.proofs.Exactness.{possible-subset, table-possible}
 use Rattle.promise.specs.declared.Stage.the-variants.{Start, Begun}
 use Rattle.promise.specs.declared.Session.{Session}
 use Rattle.promise.specs.declared.Reply.{Reply}
-use Rattle.promise.specs.declared.Counted.{Counted}
 use Rattle.promise.specs.declared.Counted.the-variants.{Count}
-use Rattle.promise.specs.Calls.{noSession, started, accepted, Owed, countFor}
+use Rattle.promise.specs.Calls.{noSession, started, accepted, Owed}
 use Rattle.promise.specs.Clips.{truthOf}
 use Rattle.promise.specs.Tell.{Kind, tell}
 use Rattle.promise.specs.Runs.{StandsFor, Intake}
@@ -31,6 +30,7 @@ use Rattle.promise.specs.Book.{fieldRefusals, Item, itemsOf, factOf, Goe
 use Rattle.promise.specs.Book.{PairsMarked, BookOf, writeRefusals, write}
 use Rattle.promise.proofs.Standing.{standing-passed}
 use Rattle.promise.proofs.Calls.{changes-session}
+use Rattle.promise.proofs.Counts.{writes-wrote}
 use Rattle.promise.proofs.Fresh.{fresh-accepted, fresh-stands}
 use Rattle.promise.proofs.Taking.{leaves-stands}
 use Rattle.promise.proofs.Tell.{tell-leaves}
@@ -190,13 +190,9 @@ read-back {n} {t} {book} {u} {r} {u′} k st some few room h =
 -- Of the calls: what write wrote is the book.
 written : (s : Session) (t out : List ℕ) {c : ℕ} {out′ : List ℕ} → Owed (write s t out) (Count c, out′)
     → BookOf (s .classes) t (take c out′)
-written s t out {c} {out′} h =
-    let d = h .done refl in
-    let front : take c out′ ≡ d .0 =
-    ap (λ (o : Counted × List ℕ). take (countFor (o .0) .count) (o .1)) (d .2)
-    ∙ take-at (d .0) (drop (length (d .0)) out) (length (d .0)) refl
-    in
-    rw front (d .1)
+written s t out h =
+    let w = writes-wrote (standing s t (writeRefusals s t out)) (BookOf (s .classes) t) out h in
+    rw (w .3, take-at (w .0) (drop (length (w .0)) out) _ (sym (w .2))) (w .1)
 
 -- read onto any table that is long enough
 pub write-read :

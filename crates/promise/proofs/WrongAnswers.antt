@@ -4,7 +4,7 @@
 use mathlib.Core.Path.{_≡_, refl, sym, _∙_, ap, ap₂, subst}
 use mathlib.Core.Logic.{_≢_, _⊎_, inl, ⊎-elim}
 use mathlib.Core.Bool.{Bool, true, false}
-use mathlib.Core.List.{List, []}
+use mathlib.Core.List.{List, [], _∷_}
 use Prim.Native.Nat.{ℕ, zero, suc, _+_, _*_}
 use native.Mathlib.Omega.{arith}
 use lib.ListN.{getD, set}
@@ -17,13 +17,13 @@ use Rattle.promise.specs.declared.Question.the-variants.{Ask, Done}
 use Rattle.promise.specs.declared.Counted.the-variants.{Count}
 use Rattle.promise.specs.Calls.{Call, Owed, countNumber, openPairs}
 use Rattle.promise.specs.Tell.{Kind, fresh, tell}
-use Rattle.promise.specs.Clips.{ClipNo, clip}
+use Rattle.promise.specs.Clips.{ClipNo, clip, clipBytes}
 use Rattle.promise.specs.Next.{next}
 use Rattle.promise.specs.Hierarchy.{hierarchy, ladder}
 use Rattle.promise.specs.Book.{BookRead, write}
 use Rattle.promise.proofs.Fresh.{fresh-unique}
 use Rattle.promise.proofs.Tell.{tell-unique}
-use Rattle.promise.proofs.Clips.{clip-unique}
+use Rattle.promise.proofs.Clips.{clip-unique, bytes-unique}
 use Rattle.promise.proofs.Next.{next-unique}
 use Rattle.promise.proofs.Counts.{open-pairs-unique}
 use Rattle.promise.proofs.Hierarchy.{hierarchy-unique}
@@ -206,6 +206,17 @@ clip-not-in-part =
     later zero (suc (suc zero)) true h m = absurd (yes-not-no (h .is-no))
     later zero (suc (suc zero)) false h m = let e : _≡_ {A = ℕ} 0 1 = m in absurd (omega arith)
     later zero (suc (suc (suc b))) v h m = absurd (omega (arith, h .below .upper-below))
+
+-- a clip whose flags are bytes
+
+abbrev pub bytesContract : Contract
+bytesContract = ofCall {I = Session × List ℕ × List ℕ} (λ i. clipBytes (i .0) (i .1) (i .2)) (λ i o o₂. bytes-unique)
+
+pub bytes-rejects : Rejected bytesContract (λ o. o .0) (λ i o. o .1 ≡ i .1)
+bytes-rejects =
+    rejected bytesContract (three 0, afterYes, 1 ∷ 7 ∷ 0 ∷ []) (three 0, afterYes, 1 ∷ 0 ∷ 0 ∷ [])
+    (met Mark.bytes-of-two) refl (λ e. omega (arith, ap (byte 2) e)) (met Mark.bytes-contradict)
+    (λ e. omega (arith, ap numberOf e))
 
 -- next: one that always says done is idle
 

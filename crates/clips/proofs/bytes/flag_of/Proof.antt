@@ -4,8 +4,8 @@ use mathlib.Core.Path.{sym, _∙_}
 use native.Mathlib.Omega.{arith}
 use lib.ListN.{getD}
 use Rattle.promise.specs.Clips.{flagsOf}
-use Rattle.promise.proofs.Flags.{flag-behind}
-use Rattle.clips.proofs.Seen.{flag-read, flags-length, byte-set}
+use Rattle.promise.proofs.Flags.{flag-behind, flag-read, flags-length}
+use Rattle.clips.proofs.Seen.{byte-set}
 use Rattle.clips.proofs.bytes.flag_of.Statement.{statement}
 use Rattle.clips.proofs.bytes.flag_of.Tie as tie
 

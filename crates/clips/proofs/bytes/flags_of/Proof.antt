@@ -5,8 +5,9 @@ use Prim.Native.Nat.{_-_}
 use native.Mathlib.Omega.{arith}
 use borrow.Author.Needs.{needs}
 use Rattle.promise.specs.Clips.{Flagged, flagsOf}
+use Rattle.promise.proofs.Flags.{flags-length}
 use Rattle.passes.proofs.Pass.{Gathered, gather-start, gather-next}
-use Rattle.clips.proofs.Seen.{flags-length, same-gathered}
+use Rattle.clips.proofs.Seen.{same-gathered}
 use Rattle.clips.proofs.bytes.flags_of.Statement.{statement}
 use Rattle.clips.proofs.bytes.flags_of.Tie as tie
 
