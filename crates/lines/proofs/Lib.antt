@@ -1,3 +1,4 @@
 pub mod LineByLine
 pub mod Saying
 pub mod Only
+pub mod Worked

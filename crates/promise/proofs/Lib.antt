@@ -26,5 +26,5 @@ pub mod Mantel
 pub mod Triangles
 pub mod Table
 pub mod Worked
-pub mod OpenPairs
+pub mod Apart
 pub mod WrongAnswers

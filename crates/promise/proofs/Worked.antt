@@ -71,7 +71,15 @@ there (Input.write s t out) = write-there s t out
 
 -- it is the outcome that the row has
 computed : (m : Mark) → there (row m .input) .0 ≡ row m .outcome
-unfolding mark opensTo decLt decLe ℕ-discrete both either implies negated as-well all-below some-below all-pairs least least-from stage is sound? transitive? pruned? yes-after-yes? no-after-yes? no-after-no? rowTo rowsTo standing-there owed-there changes-there crossing-there fresh-there tell-there set? flagged? beyond? clip-contradicts? clipped-no? clip-there flags-fit? bytes-there first-of next-there next-for-C-there open-pairs-there open-pairs-for-C-there under? equal? head-of? head? third? direct? head-there list-there heads-there too-short? hierarchy-there number-there above? to-go between direct-there rung-there rungs-there ladder-there ladder-made writes-there ladder-written-there writes-for-C-there rowOf factsFrom itemsFrom row-there field-there goes-there verdict-there made-there follows-there read-there off? book-there write-there
+unfolding mark opensTo decLt decLe ℕ-discrete both either implies negated as-well all-below some-below all-pairs least
+    least-from stage is sound? transitive? pruned? yes-after-yes? no-after-yes? no-after-no? rowTo rowsTo
+    standing-there owed-there changes-there crossing-there fresh-there tell-there set? flagged? beyond?
+    clip-contradicts? clipped-no? clip-there flags-fit? bytes-there first-of next-there next-for-C-there
+    open-pairs-there open-pairs-for-C-there under? equal? head-of? head? third? direct? head-there list-there
+    heads-there too-short? hierarchy-there number-there above? to-go between direct-there rung-there rungs-there
+    ladder-there ladder-made writes-there ladder-written-there writes-for-C-there rowOf factsFrom itemsFrom
+    row-there field-there goes-there verdict-there made-there follows-there read-there off? book-there
+    write-there
 computed Mark.P1-fresh = refl
 computed Mark.P1-done = refl
 computed Mark.P2-fresh = refl

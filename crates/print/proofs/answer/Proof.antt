@@ -32,18 +32,20 @@ slice-aggregate-report c =
 
 report-requires : tie.Need-report-requires
 report-requires c κs =
-    let s = c .before .before .before .before .before .before .before .before .before .before .before .before .before .before in
+    let read = c .before .before .before .before .before .before .before in
+    let start = read .before .before .before .before .before .before .before in
     record {
-      stands = accepted-ready (c .before .before .before .before .before .before .before .read .ensures);
-      heads-room = s .pre .heads-room;
-      steps-room = s .pre .steps-room;
-      text-room = s .pre .text-room;
+      stands = accepted-ready (read .read .ensures);
+      heads-room = start .pre .heads-room;
+      steps-room = start .pre .steps-room;
+      text-room = start .pre .text-room;
     }
 
 returns : tie.Need-returns
 returns c =
-    let h = c .before .before .before .before .before .before .before .before .before .before .before .before .before .before .read in
-    let said = c .before .before .before .before .before .before .report .ensures in
+    let reported = c .before .before .before .before .before .before in
+    let h = reported .before .before .before .before .before .before .before .before .read in
+    let said = reported .report .ensures in
     record {
       written = said .written;
       printed = record { reply = h .result; table = h .last .1 .0; read = h .ensures; says = said .says };
