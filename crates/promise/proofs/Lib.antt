@@ -27,3 +27,4 @@ pub mod Triangles
 pub mod Table
 pub mod Worked
 pub mod WrongAnswers
+pub mod MarksAlone
