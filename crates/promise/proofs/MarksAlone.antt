@@ -1,6 +1,6 @@
 -- "Bytes from n*n on are never read or written." Not written is `SameRest`, a part of each contract. Not read: on two
--- tables with the same marks and the same length every call gives the same answer, leaves the same bytes in every buffer
--- and the same marks; and so do runs, and reading a book.
+-- tables with the same marks and the same length every call gives the same answer, leaves the same bytes in every
+-- buffer and the same marks; and so do runs, and reading a book.
 -- Assumes nothing.
 use mathlib.Core.Path.{_≡_, refl, sym, _∙_, ap}
 use mathlib.Core.Logic.{_↔_, Iff·rfl}

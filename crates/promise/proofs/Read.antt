@@ -1,6 +1,6 @@
--- Reading a book: one outcome for each input, and what two readings on two tables have in common; what was read is a run
--- from fresh of the facts said, all of them or those before the place; a refusal says where and why, at a place within
--- the book; numbers 3 and 4 never come up.
+-- Reading a book: one outcome for each input, and what two readings on two tables have in common; what was read is a
+-- run from fresh of the facts said, all of them or those before the place; a refusal says where and why, at a place
+-- within the book; numbers 3 and 4 never come up.
 -- Assumes nothing.
 use mathlib.Core.Path.{_≡_, refl, sym, _∙_, ap, subst}
 use mathlib.Core.Logic.{_≢_, _⊎_, inl, inr}

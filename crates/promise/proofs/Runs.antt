@@ -293,8 +293,8 @@ module _ (Kept : Session → List ℕ → List ℕ → Type 0) (keeps : (c : Int
   run-both kept Run.stop Run.stop e = (refl, refl, kept)
   run-both kept Run.stop (Run.call h same run) e = absurd (omega (arith, ap length e))
   run-both kept (Run.call h same run) Run.stop e = absurd (omega (arith, ap length e))
-  run-both {s = s} {s₂ = s₂} {t = t} {t₂ = t₂} {u₂ = u₂} kept (Run.call {m = m} {r = r} h same run)
-      (Run.call {m = m₂} {later = later₂} {t₁ = v₂} {r = r₂} h₂ same₂ run₂) e =
+  run-both {s = s} {s₂ = s₂} {t = t} {t₂ = t₂} {u₂ = u₂} kept (Run.call {m = m} h same run)
+      (Run.call {later = later₂} {t₁ = v₂} {r = r₂} h₂ same₂ run₂) e =
       let first = ap (λ (calls : List Intake). firstOr (m .call) calls) e in
       let h₃ = subst⁻¹ (λ (c : Intake). Owed (taking c s t₂) (r₂, v₂)) first h₂ in
       let one = keeps (m .call) .both s t t₂ kept h h₃ in
