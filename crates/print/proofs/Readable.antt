@@ -1,19 +1,16 @@
 -- What reading leaves can be used: its class count is at most 128, and its marks alone stand for its table.
 -- Assumes nothing.
-use mathlib.Core.Path.{_≡_, refl, sym, _∙_, ap₂}
+use mathlib.Core.Path.{_≡_, refl}
 use mathlib.Core.Logic.{⊎-elim}
 use mathlib.Core.List.{List, []}
-use Prim.Native.Nat.{ℕ, zero, suc, _+_, _*_, _≤_, _<_}
+use Prim.Native.Nat.{ℕ, _*_, _≤_}
 use native.Mathlib.Omega.{arith}
-use lib.ListN.{take}
-use lib.Seq.{getD-take, length-take-le}
-use Rattle.order.specs.Tables.{mark, isOpen, opensTo}
+use lib.Seq.{length-take-le}
 use Rattle.promise.specs.Refusals.{First, standing}
-use Rattle.order.proofs.Bytes.{pair-below}
-use Rattle.promise.specs.declared.Session.{Session}
+use Rattle.order.proofs.Bytes.{front-marks}
 use Rattle.promise.specs.declared.Reply.{Reply}
 use Rattle.promise.specs.Book.{BookRead}
-use Rattle.promise.proofs.Standing.{Stands, first-stands, square}
+use Rattle.promise.proofs.Standing.{Stands, first-stands, stands-by-marks, square}
 use Rattle.promise.proofs.Taking.{stands-of}
 use Rattle.promise.proofs.Runs.{fresh-run-stands}
 use Rattle.promise.proofs.Read.{ReadAs, read-run}
@@ -43,43 +40,13 @@ accepted-stands {book} {t} {r} {t′} accepted h = go (read-run h)
     go (ReadAs.whole k p run) = stands-of (fresh-run-stands run)
     go (ReadAs.cut k run stop) = absurd (k accepted)
 
--- the first n*n bytes of a table have its marks
-marks-same : (n : ℕ) (t : List ℕ) (a b : ℕ) → a < n → b < n → mark n (take (n * n) t) a b ≡ mark n t a b
-unfolding mark
-marks-same n t a b ha hb = getD-take (n * n) t (a * n + b) 0 (pair-below n a b ha hb)
-
--- and as many open ones
-opens-same : (k m : ℕ) (t : List ℕ) → k ≤ m → opensTo k (take m t) ≡ opensTo k t
-unfolding opensTo
-opens-same zero m t h = refl
-opens-same (suc k) m t h =
-    ap₂ (λ (u x : ℕ). u + isOpen x) (opens-same k m t (omega arith)) (getD-take m t k 0 (omega arith))
-
-marks-stand : {s : Session} {t : List ℕ} → Stands s t → Stands s (marksOf s t)
-marks-stand {s} {t} st =
-    let n = s .classes in
-    let same = marks-same n t in
-    record {
-      some = st .some;
-      few = st .few;
-      room = omega (arith, length-take-le (n * n) t (st .room));
-      sound =
-          record {
-            small = λ a b ha hb. rw (same a b ha hb) (st .sound .small a b ha hb);
-            diagonal = λ a ha. same a a ha ha ∙ st .sound .diagonal a ha;
-            transitive = λ a b c ha hb hc x y.
-                same a c ha hc
-                ∙ st .sound .transitive a b c ha hb hc (sym (same a b ha hb) ∙ x) (sym (same b c hb hc) ∙ y);
-            pruned = λ a b c d ha hb hc hd x y z.
-                same a b ha hb
-                ∙ st .sound .pruned a b c d ha hb hc hd (sym (same c d hc hd) ∙ x) (sym (same c a hc ha) ∙ y)
-                (sym (same b d hb hd) ∙ z);
-          };
-      count = rw (opens-same (n * n) (n * n) t (omega arith)) (st .count);
-    }
-
 -- the marks of an accepted book's table can be used
 pub accepted-ready :
     {book t : List ℕ} {r : Reply} {t′ : List ℕ} → BookRead book t r t′ → r .number ≡ 0
     → First (standing (r .session) (marksOf (r .session) t′) []) 0
-accepted-ready h accepted = first-stands [] (marks-stand (accepted-stands accepted h)) refl
+accepted-ready {r = r} {t′ = t′} h accepted =
+    let n = r .session .classes in
+    let st = accepted-stands accepted h in
+    first-stands []
+    (stands-by-marks (front-marks n t′) (omega (arith, length-take-le (n * n) t′ (st .room))) st)
+    refl

@@ -18,7 +18,7 @@ use Rattle.order.specs.Facts.{Fact, factOn, under, notUnder}
 use Rattle.order.specs.Tables.{mark, Sound, Marks, SameMarks, markFor, Pair, bytesOf}
 use Rattle.promise.specs.Refusals.{First}
 use Rattle.order.proofs.Tables.{which, verdict-of}
-use Rattle.order.proofs.Pairs.{lists-map, length-bytes}
+use Rattle.order.proofs.Pairs.{length-bytes}
 use Rattle.order.proofs.Sound.{is}
 use Rattle.promise.specs.declared.Stage.{Stage}
 use Rattle.promise.specs.declared.Stage.the-variants.{Start, Begun}
@@ -28,7 +28,7 @@ use Rattle.promise.specs.Runs.{Accepted}
 use Rattle.promise.specs.Book.{TagRow, countRow, factsRow, Lookup, rowOf, lengthOf, sizeOf, fieldRefusals, Item}
 use Rattle.promise.specs.Book.{factsFrom, fieldSays, itemsFrom, itemsOf, factOf, field, PairsMarked, BookOf}
 use Rattle.promise.proofs.Read.{callsSaid}
-use Rattle.promise.proofs.Write.{book-unique}
+use Rattle.promise.proofs.Write.{book-unique, book-by-marks}
 
 -- the length that a written field gives is that of its contents
 given-length : (tag : ℕ) (bytes rest : List ℕ) → lengthOf (field tag bytes ++ rest) ≡ length bytes
@@ -289,28 +289,9 @@ book-says {n} {t} {book} h f = (
 pub books-equal :
     {n : ℕ} {t u book book₂ : List ℕ} → Sound n t → Sound n u → BookOf n t book → BookOf n u book₂
     → (book ≡ book₂) ↔ SameMarks n t u
-books-equal {n} {t} {u} {book} {book₂} ht hu k k₂ = (λ e. record { at = same e }, equal)
+books-equal {n} {t} {u} {book} {book₂} ht hu k k₂ =
+    (λ e. record { at = same e }, λ m. book-unique book book₂ (book-by-marks m k) k₂)
   where
-    equal : SameMarks n t u → book ≡ book₂
-    equal h =
-        book-unique book book₂
-        (record {
-          yes-pairs = k .yes-pairs;
-          no-pairs = k .no-pairs;
-          yes-listed = moved (k .yes-listed);
-          no-listed = moved (k .no-listed);
-          bytes = k .bytes;
-        })
-        k₂
-      where
-        moved : {m : ℕ} {l : List Pair} → PairsMarked n t m l → PairsMarked n u m l
-        moved l =
-            lists-map
-            (λ a b ha hb.
-            let e = h .at a b ha hb in
-            (λ p. (p .0, sym e ∙ p .1), λ p. (p .0, e ∙ p .1)))
-            l
-
     -- a mark of one is a mark of the other
     mark-moved :
         {x y b₁ b₂ : List ℕ} → BookOf n x b₁ → BookOf n y b₂ → b₁ ≡ b₂ → (a b : ℕ) (v : Bool) → a < n → b < n → a ≢ b

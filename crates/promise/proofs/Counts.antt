@@ -1,7 +1,8 @@
--- Calls that count: two outcomes for one input are equal, there is one, and a buffer keeps its length, given that
--- what is to be written is fixed and there.
+-- Calls that count: two outcomes for one input are equal, there is one, a buffer keeps its length, and calls are alike
+-- that are to write the same, given that what is to be written is fixed and there.
 -- Assumes nothing.
 use mathlib.Core.Path.{_≡_, refl, sym, _∙_, ap, subst}
+use mathlib.Core.Logic.{_↔_}
 use mathlib.Core.List.{List, [], _∷_, _++_}
 use Prim.Native.Nat.{ℕ, _≤_, _<_}
 use native.Mathlib.Decide.{ℕ-discrete, decLt}
@@ -13,8 +14,9 @@ use Rattle.promise.specs.declared.Session.{Session}
 use Rattle.promise.specs.declared.Counted.{Counted}
 use Rattle.promise.specs.declared.Counted.the-variants.{Count}
 use Rattle.promise.specs.Calls.{Owed, countNumber, openPairs, over, TooShort, writes, countFor}
+use Rattle.promise.proofs.Refusals.{Alike}
 use Rattle.promise.proofs.Standing.{standing-there}
-use Rattle.promise.proofs.Calls.{Fixed, owed-unique, owed-there}
+use Rattle.promise.proofs.Calls.{Fixed, owed-unique, owed-there, CallsAlike}
 
 -- a buffer that is long enough keeps its length
 pub over-fits : (w out : List ℕ) → length w ≤ length out → length (over w out) ≡ length out
@@ -80,6 +82,24 @@ module _ (refusals : List Condition) (P : List ℕ → Type 0) (out : List ℕ) 
           ap (λ (x : Counted × List ℕ). length (x .1)) (d .2)
           ∙ over-length P (d .0) out (d .1) (room (rw e at (h .number)))
       go (no e) = ap (λ (x : Counted × List ℕ). length (x .1)) (h .refused e)
+
+-- what is to be written decides whether a buffer is too short, and what is owed
+
+pub short-alike :
+    (P P₂ : List ℕ → Type 0) (out : List ℕ) → ((w : List ℕ) → P w ↔ P₂ w) → TooShort P out ↔ TooShort P₂ out
+short-alike P P₂ out same =
+    (λ z. (z .0, same (z .0) .0 (z .1), z .2), λ z. (z .0, same (z .0) .1 (z .1), z .2))
+
+pub writes-alike :
+    (refusals refusals₂ : List Condition) (P P₂ : List ℕ → Type 0) (out : List ℕ) → Alike refusals refusals₂
+    → (First refusals 0 → (w : List ℕ) → P w → P₂ w) → CallsAlike (writes refusals P out) (writes refusals₂ P₂ out)
+writes-alike refusals refusals₂ P P₂ out alike same =
+    record {
+      refusals = alike;
+      number = λ _. refl;
+      refused = λ _. refl;
+      done = λ f o d. (d .0, same f (d .0) (d .1), d .2);
+    }
 
 -- how many pairs are open
 

@@ -23,7 +23,7 @@ use Rattle.promise.specs.Runs.{StandsFor}
 use Rattle.promise.proofs.Standing.{first-stands}
 use Rattle.promise.proofs.Calls.{changes-unique, changes-session, changes-there}
 
-fresh-same : {n : ℕ} {t t′ : List ℕ} → Fresh n t → Fresh n t′ → SameMarks n t t′
+pub fresh-same : {n : ℕ} {t t′ : List ℕ} → Fresh n t → Fresh n t′ → SameMarks n t t′
 fresh-same {n} {t} {t′} h h′ = record { at = λ a b ha hb. go a b ha hb (ℕ-discrete a b) }
   where
     go : (a b : ℕ) → a < n → b < n → Dec (a ≡ b) → mark n t a b ≡ mark n t′ a b

@@ -28,3 +28,4 @@ pub mod Table
 pub mod Worked
 pub mod Apart
 pub mod WrongAnswers
+pub mod MarksAlone

@@ -1,5 +1,6 @@
--- Reading a book: one outcome for each input; what was read is a run from fresh of the facts said, all of them or those
--- before the place; a refusal says where and why, at a place within the book; numbers 3 and 4 never come up.
+-- Reading a book: one outcome for each input, and what two readings on two tables have in common; what was read is a
+-- run from fresh of the facts said, all of them or those before the place; a refusal says where and why, at a place
+-- within the book; numbers 3 and 4 never come up.
 -- Assumes nothing.
 use mathlib.Core.Path.{_≡_, refl, sym, _∙_, ap, subst}
 use mathlib.Core.Logic.{_≢_, _⊎_, inl, inr}
@@ -8,6 +9,7 @@ use Prim.Native.Nat.{ℕ, suc, _≤_, _<_}
 use native.Mathlib.Decide.{ℕ-discrete, decLt}
 use native.Mathlib.Omega.{arith}
 use lib.ListN.{length, getD, drop}
+use Rattle.order.specs.Facts.{Fact}
 use Rattle.promise.specs.Refusals.{First, badVerdict}
 use Rattle.promise.proofs.Refusals.{first-unique, stage as judge}
 use Rattle.promise.specs.declared.Stage.{Stage}
@@ -19,7 +21,7 @@ use Rattle.promise.specs.Tell.{Kind, fresh, tell}
 use Rattle.promise.specs.Runs.{Intake, Made, Run, FromFresh}
 use Rattle.promise.specs.Book.{fieldRefusals, Item, itemsOf, factOf, Ends, GoesOn, Follows, BookRead}
 use Rattle.promise.proofs.Standing.{Stands}
-use Rattle.promise.proofs.Calls.{changes-kept}
+use Rattle.promise.proofs.Calls.{Keeps, unique-keeps, changes-kept}
 use Rattle.promise.proofs.Fresh.{fresh-unique, fresh-there, fresh-stands, fresh-numbers}
 use Rattle.promise.proofs.Taking.{stands-of, leaves-keeps}
 use Rattle.promise.proofs.Tell.{tell-unique, tell-there, tell-leaves, tell-numbers}
@@ -27,63 +29,76 @@ use Rattle.promise.proofs.Tags.{field-there, field-numbers}
 use Rattle.promise.proofs.Book.{FieldAt, field-within, ends-within, SaidAt, PlacesRise, Later, CountFirst}
 use Rattle.promise.proofs.Book.{Whole, items-whole}
 
+-- Two readings of one book on two tables: what fresh, tell and answer keep, replying the same on both, holds in the end
+-- if it held at the start, and the replies are equal.
+module _ (Kept : Session → List ℕ → List ℕ → Type 0) where
+  ends-both :
+      {r r₂ : Reply} {u u₂ : List ℕ} {k p : ℕ} {s : Session} {t t₂ : List ℕ} → Kept s t t₂ → Ends k p s t r u
+      → Ends k p s t₂ r₂ u₂ → (r ≡ r₂) × Kept (r .session) u u₂
+  ends-both kept e e₂ = (e .0 ∙ sym (e₂ .0), rw (e .0, e .1, e₂ .1) kept)
+
+  -- judged with one number
+  goes-both :
+      (k p : ℕ) {s : Session} {t t₂ u u₂ : List ℕ} {r r₂ : Reply} {L L₂ : Type 0} → Kept s t t₂
+      → (L → L₂ → (r ≡ r₂) × Kept (r .session) u u₂) → GoesOn k p s t r u L → GoesOn k p s t₂ r₂ u₂ L₂
+      → (r ≡ r₂) × Kept (r .session) u u₂
+  goes-both k p kept later (inl h) (inl h₂) = ends-both kept (h .1) (h₂ .1)
+  goes-both k p kept later (inl h) (inr h₂) = absurd (h .0 (h₂ .0))
+  goes-both k p kept later (inr h) (inl h₂) = absurd (h₂ .0 (h .0))
+  goes-both k p kept later (inr h) (inr h₂) = later (h .1) (h₂ .1)
+
+  -- after a call, which replies the same
+  made-both :
+      (p : ℕ) {q q₂ r r₂ : Reply} {v v₂ u u₂ : List ℕ} (L : Session → List ℕ → Reply → List ℕ → Type 0)
+      → (q ≡ q₂) × Kept (q .session) v v₂
+      → (Kept (q .session) v v₂ → L (q .session) v r u → L (q .session) v₂ r₂ u₂ → (r ≡ r₂) × Kept (r .session) u u₂)
+      → GoesOn (q .number) p (q .session) v r u (L (q .session) v r u)
+      → GoesOn (q₂ .number) p (q₂ .session) v₂ r₂ u₂ (L (q₂ .session) v₂ r₂ u₂) → (r ≡ r₂) × Kept (r .session) u u₂
+  made-both p {q} {r₂ = r₂} {v₂ = v₂} {u₂ = u₂} L (e, kept) later h h₂ =
+      goes-both (q .number) p kept (later kept) h
+      (subst (λ (x : Reply). GoesOn (x .number) p (x .session) v₂ r₂ u₂ (L (x .session) v₂ r₂ u₂)) (sym e) h₂)
+
+  module _
+      (fresh-keeps : (n : ℕ) → Keeps Kept (λ _ t. fresh n t))
+      (tell-keeps : (kind : Kind) (f : Fact) → Keeps Kept (λ s t. tell kind s t f)) where
+    follows-both :
+        (items : List Item) (s : Session) (t t₂ : List ℕ) {r r₂ : Reply} {u u₂ : List ℕ} → Kept s t t₂
+        → Follows items s t r u → Follows items s t₂ r₂ u₂ → (r ≡ r₂) × Kept (r .session) u u₂
+    follows-both [] s t t₂ kept h h₂ = ends-both kept h h₂
+    follows-both (Item.head p stage bytes ∷ items) s t t₂ {r₂ = r₂} {u₂ = u₂} kept h h₂ =
+        goes-both (h .0) p kept (follows-both items s t t₂ kept) (h .2)
+        (subst (λ (k : ℕ). GoesOn k p s t₂ r₂ u₂ (Follows items s t₂ r₂ u₂))
+        (first-unique (fieldRefusals stage bytes) (h₂ .0) (h .0) (h₂ .1) (h .1)) (h₂ .2))
+    follows-both (Item.begin p n ∷ items) s t t₂ kept h h₂ =
+        made-both p (Follows items) (fresh-keeps n .both s t t₂ kept (h .2) (h₂ .2))
+        (follows-both items (h .0 .session) (h .1) (h₂ .1)) (h .3) (h₂ .3)
+    follows-both (Item.said p kind a b v ∷ items) s t t₂ {r₂ = r₂} {u₂ = u₂} kept h h₂ =
+        goes-both (h .0) p kept
+        (λ l l₂.
+        made-both p (Follows items) (tell-keeps kind (factOf a b v) .both s t t₂ kept (l .2) (l₂ .2))
+        (follows-both items (l .0 .session) (l .1) (l₂ .1)) (l .3) (l₂ .3))
+        (h .2)
+        (subst
+        (λ (k : ℕ).
+        GoesOn k p s t₂ r₂ u₂
+        ((r₁ : Reply) × (t₁ : List ℕ) × Owed (tell kind s t₂ (factOf a b v)) (r₁, t₁)
+        × GoesOn (r₁ .number) p (r₁ .session) t₁ r₂ u₂ (Follows items (r₁ .session) t₁ r₂ u₂)))
+        (first-unique (badVerdict v ∷ []) (h₂ .0) (h .0) (h₂ .1) (h .1)) (h₂ .2))
+
+    pub read-both :
+        {book t t₂ : List ℕ} {r r₂ : Reply} {u u₂ : List ℕ} → Kept noSession t t₂ → BookRead book t r u
+        → BookRead book t₂ r₂ u₂ → (r ≡ r₂) × Kept (r .session) u u₂
+    read-both {book} {t} {t₂} kept h h₂ =
+        follows-both (itemsOf book) noSession t t₂ kept (h .followed) (h₂ .followed)
+
 -- one outcome at most
-
-ends-unique :
-    {r r₂ : Reply} {t′ t₂ : List ℕ} {k p : ℕ} {s : Session} {t : List ℕ} → Ends k p s t r t′ → Ends k p s t r₂ t₂
-    → (r ≡ r₂) × (t′ ≡ t₂)
-ends-unique e e₂ = (e .0 ∙ sym (e₂ .0), e .1 ∙ sym (e₂ .1))
-
--- judged with one number
-goes-unique :
-    (k p : ℕ) {s : Session} {t t′ t₂ : List ℕ} {r r₂ : Reply} {L L₂ : Type 0} → (L → L₂ → (r ≡ r₂) × (t′ ≡ t₂))
-    → GoesOn k p s t r t′ L → GoesOn k p s t r₂ t₂ L₂ → (r ≡ r₂) × (t′ ≡ t₂)
-goes-unique k p later (inl h) (inl h₂) = ends-unique (h .1) (h₂ .1)
-goes-unique k p later (inl h) (inr h₂) = absurd (h .0 (h₂ .0))
-goes-unique k p later (inr h) (inl h₂) = absurd (h₂ .0 (h .0))
-goes-unique k p later (inr h) (inr h₂) = later (h .1) (h₂ .1)
-
--- after a call, which has one outcome
-made-unique :
-    (p : ℕ) {q q₂ r r₂ : Reply} {u u₂ t′ t₂ : List ℕ} (L : Session → List ℕ → Reply → List ℕ → Type 0)
-    → _≡_ {A = Reply × List ℕ} (q, u) (q₂, u₂)
-    → (L (q .session) u r t′ → L (q .session) u r₂ t₂ → (r ≡ r₂) × (t′ ≡ t₂))
-    → GoesOn (q .number) p (q .session) u r t′ (L (q .session) u r t′)
-    → GoesOn (q₂ .number) p (q₂ .session) u₂ r₂ t₂ (L (q₂ .session) u₂ r₂ t₂) → (r ≡ r₂) × (t′ ≡ t₂)
-made-unique p {q} {r₂ = r₂} {u = u} {t₂ = t₂} L e later h h₂ =
-    goes-unique (q .number) p later h
-    (subst
-    (λ (o : Reply × List ℕ). GoesOn (o .0 .number) p (o .0 .session) (o .1) r₂ t₂ (L (o .0 .session) (o .1) r₂ t₂))
-    (sym e) h₂)
-
-follows-unique :
-    (items : List Item) (s : Session) (t : List ℕ) {r r₂ : Reply} {t′ t₂ : List ℕ} → Follows items s t r t′
-    → Follows items s t r₂ t₂ → (r ≡ r₂) × (t′ ≡ t₂)
-follows-unique [] s t h h₂ = ends-unique h h₂
-follows-unique (Item.head p stage bytes ∷ items) s t {r₂ = r₂} {t₂ = t₂} h h₂ =
-    goes-unique (h .0) p (follows-unique items s t) (h .2)
-    (subst (λ (k : ℕ). GoesOn k p s t r₂ t₂ (Follows items s t r₂ t₂))
-    (first-unique (fieldRefusals stage bytes) (h₂ .0) (h .0) (h₂ .1) (h .1)) (h₂ .2))
-follows-unique (Item.begin p n ∷ items) s t h h₂ =
-    made-unique p (Follows items) (fresh-unique (h .2) (h₂ .2)) (follows-unique items (h .0 .session) (h .1)) (h .3)
-    (h₂ .3)
-follows-unique (Item.said p kind a b v ∷ items) s t {r₂ = r₂} {t₂ = t₂} h h₂ =
-    goes-unique (h .0) p
-    (λ l l₂.
-    made-unique p (Follows items) (tell-unique kind (l .2) (l₂ .2)) (follows-unique items (l .0 .session) (l .1)) (l .3)
-    (l₂ .3))
-    (h .2)
-    (subst
-    (λ (k : ℕ).
-    GoesOn k p s t r₂ t₂
-    ((r₁ : Reply) × (t₁ : List ℕ) × Owed (tell kind s t (factOf a b v)) (r₁, t₁)
-    × GoesOn (r₁ .number) p (r₁ .session) t₁ r₂ t₂ (Follows items (r₁ .session) t₁ r₂ t₂)))
-    (first-unique (badVerdict v ∷ []) (h₂ .0) (h .0) (h₂ .1) (h .1)) (h₂ .2))
-
 pub read-unique :
     {book t : List ℕ} {r r₂ : Reply} {t′ t₂ : List ℕ} → BookRead book t r t′ → BookRead book t r₂ t₂
     → (r ≡ r₂) × (t′ ≡ t₂)
-read-unique {book} {t} h h₂ = follows-unique (itemsOf book) noSession t (h .followed) (h₂ .followed)
+read-unique =
+    read-both (λ s t t₂. t ≡ t₂) (λ n. unique-keeps (λ _ t. fresh n t) (λ s t o o₂. fresh-unique))
+    (λ kind f. unique-keeps (λ s t. tell kind s t f) (λ s t o o₂. tell-unique kind))
+    refl
 
 -- one at least
 

@@ -1,7 +1,7 @@
 -- Demand 3, over any run of tells, answers and clips, refused ones among them; and the tally as a number read off the
 -- history.
 -- Assumes nothing.
-use mathlib.Core.Path.{_≡_, refl, _∙_, ap, subst, subst⁻¹}
+use mathlib.Core.Path.{_≡_, refl, sym, _∙_, ap, ap₂, subst, subst⁻¹}
 use mathlib.Core.Logic.{_↔_, _≢_, inl, inr}
 use mathlib.Core.List.{List, [], _∷_, _++_, List·Memᴰ·not-nil}
 use Prim.Native.Nat.{ℕ, zero, suc, _+_, _*_, _≤_, _<_}
@@ -21,7 +21,7 @@ use Rattle.promise.specs.declared.Reply.{Reply}
 use Rattle.promise.specs.Calls.{Owed}
 use Rattle.promise.specs.Runs.{StandsFor, Intake, taking, SaidBy, Fits, addedBy, Made, Run, FromFresh, callsOf}
 use Rattle.promise.specs.Runs.{UnlessRefused, Accepted, testsIn}
-use Rattle.promise.proofs.Calls.{changes-kept, changes-session}
+use Rattle.promise.proofs.Calls.{Keeps, unique-keeps, changes-kept, changes-session}
 use Rattle.promise.proofs.Fresh.{fresh-stands, fresh-there, fresh-accepted}
 use Rattle.promise.proofs.Taking.{stands-of, Leaves, leaves-stands}
 use Rattle.promise.proofs.Tell.{tell-unique, tell-there, tell-opens, tell-leaves, tell-refused}
@@ -314,18 +314,31 @@ abbrev pub rest : List Intake → List Intake
 rest [] = []
 rest (c ∷ calls) = calls
 
+-- Two runs that make the same calls from one session and two tables: what every call keeps, replying the same on both,
+-- holds in the end if it held at the start; they get the same numbers and leave one session.
+module _ (Kept : Session → List ℕ → List ℕ → Type 0) (keeps : (c : Intake) → Keeps Kept (taking c)) where
+  pub run-both :
+      {made made₂ : List Made} {s s₁ s₂ : Session} {t t₂ u u₂ : List ℕ} → Kept s t t₂ → Run s t made s₁ u
+      → Run s t₂ made₂ s₂ u₂ → callsOf made ≡ callsOf made₂ → (made ≡ made₂) × (s₁ ≡ s₂) × Kept s₁ u u₂
+  run-both kept Run.stop Run.stop e = (refl, refl, kept)
+  run-both kept Run.stop (Run.call h same run) e = absurd (omega (arith, ap length e))
+  run-both kept (Run.call h same run) Run.stop e = absurd (omega (arith, ap length e))
+  run-both {s = s} {s₂ = s₂} {t = t} {t₂ = t₂} {u₂ = u₂} kept (Run.call {m = m} h same run)
+      (Run.call {later = later₂} {t₁ = v₂} {r = r₂} h₂ same₂ run₂) e =
+      let first = ap (λ (calls : List Intake). firstOr (m .call) calls) e in
+      let h₃ = subst⁻¹ (λ (c : Intake). Owed (taking c s t₂) (r₂, v₂)) first h₂ in
+      let one = keeps (m .call) .both s t t₂ kept h h₃ in
+      let number = sym same ∙ ap (λ (x : Reply). x .number) (one .0) ∙ same₂ in
+      let run₃ = subst⁻¹ (λ (x : Reply). Run (x .session) v₂ later₂ s₂ u₂) (one .0) run₂ in
+      let later = run-both (one .1) run run₃ (ap rest e) in
+      (ap₂ _∷_ (ap₂ (λ c k. record { call = c; number = k }) first number) (later .0), later .1, later .2)
+
 -- runs that make the same calls from one session and one table leave one session and one table
 pub run-unique :
     {made made₂ : List Made} {s s₁ s₂ : Session} {t t₁ t₂ : List ℕ} → Run s t made s₁ t₁ → Run s t made₂ s₂ t₂
     → callsOf made ≡ callsOf made₂ → (s₁ ≡ s₂) × (t₁ ≡ t₂)
-run-unique Run.stop Run.stop e = (refl, refl)
-run-unique Run.stop (Run.call h same run) e = absurd (omega (arith, ap length e))
-run-unique (Run.call h same run) Run.stop e = absurd (omega (arith, ap length e))
-run-unique {s = s} {s₂ = s₂} {t = t} {t₂ = t₂} (Run.call {m = m} {t₁ = u} {r = r} h same run)
-    (Run.call {later = later₂} {t₁ = u₂} {r = r₂} h₂ same₂ run₂) e =
-    let first = ap (λ (calls : List Intake). firstOr (m .call) calls) e in
-    let h₃ = subst⁻¹ (λ (c : Intake). Owed (taking c s t) (r₂, u₂)) first h₂ in
-    let later : Run (r .session) u later₂ s₂ t₂ =
-    subst⁻¹ (λ (o : Reply × List ℕ). Run (o .0 .session) (o .1) later₂ s₂ t₂) (intake-unique (m .call) s t h h₃) run₂
+run-unique run run₂ e =
+    let q =
+    run-both (λ s t t₂. t ≡ t₂) (λ c. unique-keeps (taking c) (λ s t o o₂. intake-unique c s t)) refl run run₂ e
     in
-    run-unique run later (ap rest e)
+    (q .1, q .2)

@@ -1,18 +1,21 @@
--- Refusals 1 to 4: what holds where none of them is due, and that there is a first one or none.
+-- Refusals 1 to 4: what holds where none of them is due, that there is a first one or none, and that the marks and the
+-- length of the table alone decide them.
 -- Assumes nothing.
 use mathlib.Core.Path.{_≡_, refl, subst}
-use mathlib.Core.Logic.{_≢_, _⊎_, inl, inr, ⊎-elim}
+use mathlib.Core.Logic.{_≢_, _⊎_, inl, inr, ⊎-elim, Iff·rfl, Iff·not}
 use mathlib.Core.List.{List, []}
 use Prim.Native.Nat.{ℕ, suc, _+_, _*_, _-_, _≤_, _<_}
 use native.Mathlib.Decide.{ℕ-discrete, decLt, decLe}
 use native.Mathlib.Nat.{mul-le-mul, mul-le-mul-right}
 use native.Mathlib.Omega.{arith}
 use lib.ListN.{length}
-use Rattle.order.specs.Tables.{Sound, opens}
-use Rattle.promise.specs.Refusals.{Condition, First, standing}
+use Rattle.order.specs.Tables.{Sound, SameMarks, opens}
+use Rattle.promise.specs.Refusals.{Condition, First, Overcounted, standing}
 use Rattle.order.proofs.Decide.{stable, either, negated, as-well}
-use Rattle.promise.proofs.Refusals.{stage}
+use Rattle.promise.proofs.Refusals.{stage, Alike}
 use Rattle.order.proofs.Sound.{sound?}
+use Rattle.order.proofs.Tables.{same-sym, sound-by-marks}
+use Rattle.order.proofs.Counts.{opens-by-marks}
 use Rattle.promise.specs.declared.Session.{Session}
 
 -- none of the refusals 1 to 4 is due
@@ -125,3 +128,37 @@ standing-there own s t later =
 pub below-of : (n a b : ℕ) → ¬ ((n ≤ a) ⊎ (n ≤ b)) → (a < n) × (b < n)
 below-of n a b h =
     (stable (decLt a n) (λ z. h (inl (omega arith))), stable (decLt b n) (λ z. h (inr (omega arith))))
+
+-- the marks, and that there is room for them, decide whether a table stands
+pub stands-by-marks :
+    {s : Session} {t t₂ : List ℕ} → SameMarks (s .classes) t t₂ → s .classes * s .classes ≤ length t₂ → Stands s t
+    → Stands s t₂
+stands-by-marks m room st =
+    record {
+      some = st .some;
+      few = st .few;
+      room = room;
+      sound = sound-by-marks m (st .sound);
+      count = rw (← opens-by-marks m) (st .count);
+    }
+
+-- the marks and the length decide which of the refusals 1 to 4 is due
+pub standing-alike :
+    (own own₂ : List Condition) (s : Session) {t t₂ : List ℕ} → SameMarks (s .classes) t t₂ → length t ≡ length t₂
+    → Alike own own₂ → Alike (standing s t own) (standing s t₂ own₂)
+standing-alike own own₂ s {t} {t₂} m e later = (
+  refl,
+  Iff·rfl,
+  λ _. (
+    refl,
+    rw e Iff·rfl,
+    λ _. (
+      refl,
+      Iff·not (sound-by-marks m, sound-by-marks (same-sym m)),
+      λ _. (refl, (over m, over (same-sym m)), λ _. later),
+    ),
+  ),
+)
+  where
+    over : {u v : List ℕ} → SameMarks (s .classes) u v → Overcounted s u → Overcounted s v
+    over q o = record { exceeds = rw (← opens-by-marks q) (o .exceeds) }

@@ -1,4 +1,4 @@
--- The book of a table: one and only one; and one outcome of the call for each input.
+-- The book of a table: one and only one, and the marks alone decide it; and one outcome of the call for each input.
 -- Assumes nothing.
 use mathlib.Core.Path.{_≡_, refl, sym, _∙_, ap₂}
 use mathlib.Core.Logic.{_≢_, inl, inr}
@@ -7,16 +7,16 @@ use Prim.Native.Nat.{ℕ}
 use native.Mathlib.Decide.{ℕ-discrete}
 use native.Mathlib.Omega.{arith}
 use lib.ListN.{length}
-use Rattle.order.specs.Tables.{mark, Pair, bytesOf}
+use Rattle.order.specs.Tables.{mark, SameMarks, Pair, bytesOf}
 use Rattle.promise.specs.Refusals.{First, standing}
 use Rattle.order.proofs.Decide.{both, negated}
 use Rattle.promise.proofs.Refusals.{stage}
-use Rattle.order.proofs.Pairs.{lists-unique, pairsOf, pairs-listed}
+use Rattle.order.proofs.Pairs.{lists-unique, lists-map, pairsOf, pairs-listed}
 use Rattle.order.proofs.Sound.{is}
 use Rattle.promise.specs.declared.Session.{Session}
 use Rattle.promise.specs.declared.Counted.{Counted}
 use Rattle.promise.specs.Calls.{Owed, TooShort}
-use Rattle.promise.specs.Book.{field, BookOf, writeRefusals, write}
+use Rattle.promise.specs.Book.{field, PairsMarked, BookOf, writeRefusals, write}
 use Rattle.promise.proofs.Standing.{standing-passed, standing-there}
 use Rattle.promise.proofs.Calls.{Fixed, owed-unique}
 use Rattle.promise.proofs.Counts.{too-short?, writes-fixed, writes-there, writes-length}
@@ -27,6 +27,22 @@ book-unique {n} book book₂ h k =
     ∙ ap₂ (λ (x y : List Pair). field 1 (n ∷ []) ++ (field 2 (bytesOf x) ++ field 3 (bytesOf y)))
     (lists-unique (h .yes-listed) (k .yes-listed)) (lists-unique (h .no-listed) (k .no-listed))
     ∙ sym (k .bytes)
+
+pub book-by-marks : {n : ℕ} {t t₂ book : List ℕ} → SameMarks n t t₂ → BookOf n t book → BookOf n t₂ book
+book-by-marks {n} {t} {t₂} same k =
+    record {
+      yes-pairs = k .yes-pairs;
+      no-pairs = k .no-pairs;
+      yes-listed = moved (k .yes-listed);
+      no-listed = moved (k .no-listed);
+      bytes = k .bytes;
+    }
+  where
+    moved : {m : ℕ} {l : List Pair} → PairsMarked n t m l → PairsMarked n t₂ m l
+    moved =
+        lists-map (λ a b ha hb.
+        let e = same .at a b ha hb in
+        (λ p. (p .0, sym e ∙ p .1), λ p. (p .0, e ∙ p .1)))
 
 abbrev pub Off : ℕ → List ℕ → ℕ → ℕ → ℕ → Type 0
 Off n t m a b = (a ≢ b) × (mark n t a b ≡ m)
