@@ -24,7 +24,7 @@ use Rattle.lines.specs.Lines.{Printed, Output}
 not-both : {n a b : ℕ} {t : List ℕ} → FirstOpen n t a b → opens n t ≡ 0 → ⊥
 not-both {n} {a} {b} {t} p o = opens-none n t .0 o a b (p .lower-below) (p .upper-below) (p .is-open)
 
-shows-unique : {n k : ℕ} {t x y : List ℕ} → Shows n k t x → Shows n k t y → x ≡ y
+pub shows-unique : {n k : ℕ} {t x y : List ℕ} → Shows n k t x → Shows n k t y → x ≡ y
 shows-unique {n} {k} {t} (Shows.asks p) (Shows.asks q) =
     let r = first-open-unique p q in
     ap₂ (λ (a b : ℕ). countsLine n k (opens n t) ++ questionLine a b) (r .0) (r .1)

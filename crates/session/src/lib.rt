@@ -1,5 +1,5 @@
-// The calls fresh, tell, answer and next. None has a requires: any class count, tally, table and class numbers get an
-// answer or a refusal.
+// The calls fresh, tell, answer, next and open_pairs. None has a requires: any class count, tally, table and class
+// numbers get an answer or a refusal.
 mod facts;
 mod replies;
 

@@ -1,4 +1,4 @@
-//! The worked marks of books and the bytes of the readings.
+//! The worked marks of books, and bytes worked by hand.
 
 use super::*;
 use crate::calls::read;

@@ -1,12 +1,12 @@
--- `print::decide` meets its contract: the line of 15 stands where more came, and the book's answer where none did.
+-- `printing::decide` meets its contract: the line of 15 stands where more came, and the book's answer where none did.
 -- Assumes nothing.
 use mathlib.Core.Path.{sym}
 use native.Mathlib.Omega.{arith}
 use lib.Seq.{length-take-le}
 use borrow.Author.Needs.{needs}
-use Rattle.print.proofs.Deciding.{more-decided, whole-decided}
-use Rattle.print.proofs.decide.Statement.{statement}
-use Rattle.print.proofs.decide.Tie as tie
+use Rattle.printing.proofs.Deciding.{more-decided, whole-decided}
+use Rattle.printing.proofs.decide.Statement.{statement}
+use Rattle.printing.proofs.decide.Tie as tie
 
 returns : tie.Need-returns
 returns c = more-decided (c .before .before .before .before .before .before .before .before .before .before .pre .0)

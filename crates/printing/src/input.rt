@@ -2,7 +2,7 @@
 use libc::STDIN_FILENO;
 ghost use Prim.Native.Nat.{_≤_};
 ghost use lib.ListN.{length};
-ghost use Rattle.print.specs.Answers.{Held};
+ghost use Rattle.printing.specs.Answers.{Held};
 
 // What came of reading: how many bytes there are, and whether a read failed.
 pub struct Filled {

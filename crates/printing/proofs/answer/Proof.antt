@@ -1,12 +1,12 @@
--- `print::answer` meets its contract: the marks of the table that was read are lent.
+-- `printing::answer` meets its contract: the marks of the table that was read are lent.
 -- Assumes nothing.
 use native.Mathlib.Omega.{arith}
 use lib.Seq.{length-take-le}
 use mathlib.Core.Path.{sym}
-use Rattle.print.proofs.Readable.{few-marks, accepted-ready}
+use Rattle.printing.proofs.Readable.{few-marks, accepted-ready}
 use borrow.Author.Needs.{needs}
-use Rattle.print.proofs.answer.Statement.{statement}
-use Rattle.print.proofs.answer.Tie as tie
+use Rattle.printing.proofs.answer.Statement.{statement}
+use Rattle.printing.proofs.answer.Tie as tie
 
 mul-marks : tie.Need-mul-marks
 mul-marks c = omega (arith, few-marks (c .before .before .before .read .ensures))

@@ -1,4 +1,4 @@
--- `print::input::fill` meets its contract: the count stays within the buffer.
+-- `printing::input::fill` meets its contract: the count stays within the buffer.
 -- Assumes nothing.
 use mathlib.Core.Path.{_≡_, refl, _∙_}
 use Prim.Native.Nat.{_-_, _≤_}
@@ -6,8 +6,8 @@ use native.Mathlib.Omega.{arith}
 use lib.ListN.{length}
 use borrow.Author.Needs.{needs}
 use Rattle.buffers.proofs.Parts.{part-length, replaced-length}
-use Rattle.print.proofs.input.fill.Statement.{statement}
-use Rattle.print.proofs.input.fill.Tie as tie
+use Rattle.printing.proofs.input.fill.Statement.{statement}
+use Rattle.printing.proofs.input.fill.Tie as tie
 
 abbrev Inv-loop : tie.InvT-loop
 Inv-loop input₀ count₀ input count = (count ≤ length input) × (length input ≡ length input₀)

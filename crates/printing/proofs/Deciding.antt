@@ -9,7 +9,7 @@ use lib.ListN.{length, take}
 use lib.Seq.{length-take-le}
 use Rattle.buffers.specs.Placed.{Put}
 use Rattle.lines.specs.Lines.{refusalLine}
-use Rattle.print.specs.Answers.{Answered, Input, Decided}
+use Rattle.printing.specs.Answers.{Answered, Input, Decided}
 
 read : {buffer : List ℕ} {count behind : ℕ} → Input buffer count behind → length (take count buffer) ≡ count
 read {buffer} {count} input = length-take-le count buffer (input .held .within)

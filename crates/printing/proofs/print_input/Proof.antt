@@ -1,11 +1,11 @@
--- `print::main` is safe: each part that is lent lies within its buffer.
+-- `printing::print_input` is safe: each part that is lent lies within its buffer.
 -- Assumes nothing.
 use mathlib.Core.Path.{sym}
 use native.Mathlib.Omega.{arith}
 use lib.Seq.{length-take-le}
 use borrow.Author.Needs.{needs}
-use Rattle.print.proofs.main.Statement.{statement}
-use Rattle.print.proofs.main.Tie as tie
+use Rattle.printing.proofs.print_input.Statement.{statement}
+use Rattle.printing.proofs.print_input.Tie as tie
 
 slice-aggregate-write-all : tie.Need-slice-aggregate-write-all
 slice-aggregate-write-all c =
@@ -13,8 +13,8 @@ slice-aggregate-write-all c =
     sym (length-take-le (said .result) (said .last .1 .1 .1 .1 .1 .1 .0)
     (omega (arith, said .ensures .put .fits, said .kept .1 .1 .1 .1 .1 .1 .0)))
 
-pub main-spec : {M : Type 1} → statement M
-main-spec =
+pub print-input-spec : {M : Type 1} → statement M
+print-input-spec =
     tie.close
     (tie.spec
     (λ c. search needs)
