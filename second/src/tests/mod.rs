@@ -1,4 +1,4 @@
-//! Document 01's worked marks, the bytes of its readings, document 02's clips
+//! Document 01's worked marks, bytes worked by hand, document 02's clips
 //! and the protocol of docs/SWEEP.md. Expected values are typed in from the
 //! documents.
 
