@@ -21,8 +21,8 @@ pub record Answered (book table text : List ℕ) (size : ℕ) (text′ : List �
   pub printed : Printed book table written
   pub put : Put written 0 text size text′
 
--- So many bytes of the input stand at the front of the buffer, and so many came behind them: none where the buffer is
--- not full.
+-- the number of bytes that a buffer holds and of those that came behind them: none came behind a buffer that is not
+-- full
 pub record Held (buffer : List ℕ) (count behind : ℕ) : Type 0 where
   pub within : count ≤ length buffer
   pub full : behind ≢ 0 → count ≡ length buffer
