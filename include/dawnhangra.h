@@ -1,4 +1,8 @@
-// Dawnhangra for C: which class of receiver lies under which. Link it with libdawnhangra.a, which is for x86-64.
+// Dawnhangra for C, C99 or later, and C++: which class of receiver lies under which. Link it with libdawnhangra.a,
+// which is for x86-64 and needs of the C library memcpy and memset alone.
+//
+// Every call ends, allocates nothing and keeps nothing from call to call. Threads may call side by side as long as no
+// buffer that one call writes is lent to another at the same time.
 //
 // A buffer is lent as a pointer followed by its length in bytes. The pointer must be valid for that length, and for
 // writing where it is not const. It may be null only where the length is 0. Buffers lent to one call must not
@@ -19,8 +23,22 @@
 extern "C" {
 #endif
 
+// What this header is of: it changes where a call, a struct or a number does.
+#define DAWNHANGRA_VERSION 1
+
 // The most classes that a table may have.
 #define DAWNHANGRA_MOST_CLASSES 128
+
+// Sizes in bytes that always suffice, whatever the class count: a table, for fresh and read too; the heads, the steps,
+// the rungs of a ladder, and a book that write gives.
+#define DAWNHANGRA_TABLE_BYTES 16384
+#define DAWNHANGRA_HEADS_BYTES 128
+#define DAWNHANGRA_STEPS_BYTES 8192
+#define DAWNHANGRA_RUNGS_BYTES 128
+#define DAWNHANGRA_BOOK_BYTES 32522
+
+// The bytes of stack to leave for a call. As built here ladder takes up to 35,100, hierarchy 12,000, any other 1,200.
+#define DAWNHANGRA_STACK_BYTES 65536
 
 // The marks in a table: neither is known, a is under b, a is not under b.
 enum dawnhangra_mark {
@@ -50,6 +68,29 @@ enum dawnhangra_number {
     DAWNHANGRA_TOO_LONG = 15       // the input is above 32,768 bytes: the printing program alone gives it
 };
 
+// A sentence for a number, to be shown to people; for one that is no number of these, that it is none.
+static inline const char *dawnhangra_text(uint8_t number) {
+    switch (number) {
+    case DAWNHANGRA_ACCEPTED: return "accepted";
+    case DAWNHANGRA_BAD_COUNT: return "the class count is 0 or above 128";
+    case DAWNHANGRA_SHORT_TABLE: return "the table is shorter than its classes need";
+    case DAWNHANGRA_NOT_SOUND: return "the table is not one that facts give";
+    case DAWNHANGRA_OVERCOUNTED: return "more tests are counted than can have been made";
+    case DAWNHANGRA_NO_SUCH_CLASS: return "a class number is not below the class count";
+    case DAWNHANGRA_CONTRADICTED: return "the fact contradicts what is settled";
+    case DAWNHANGRA_STILL_OPEN: return "a pair is still open";
+    case DAWNHANGRA_NO_ROOM: return "a buffer is shorter than what is to be written there";
+    case DAWNHANGRA_NO_LADDER: return "the lower class is not under the upper one";
+    case DAWNHANGRA_CUT_SHORT: return "a field runs past the end of the book";
+    case DAWNHANGRA_UNKNOWN_TAG: return "a field's tag is not 1 to 4";
+    case DAWNHANGRA_MISPLACED_TAG: return "the book is empty, does not begin with its class count, or has a second one";
+    case DAWNHANGRA_BAD_LENGTH: return "a field's length is not allowed for its tag";
+    case DAWNHANGRA_BAD_VERDICT: return "an answer's verdict is neither 0 nor 1";
+    case DAWNHANGRA_TOO_LONG: return "the input is above 32,768 bytes";
+    default: return "no number of this library";
+    }
+}
+
 // The class count n, and the tally of tests.
 typedef struct dawnhangra_session {
     size_t classes;
@@ -65,6 +106,7 @@ typedef struct dawnhangra_reply {
 } dawnhangra_reply;
 
 // What next gives: whether lower and upper are to be asked about. Where accepted and nothing is asked, no pair is open.
+// Lower and upper are 0 where nothing is asked, the place always.
 typedef struct dawnhangra_question {
     uint8_t number;
     size_t place;
@@ -74,7 +116,7 @@ typedef struct dawnhangra_question {
 } dawnhangra_question;
 
 // What open_pairs, hierarchy, ladder and write give: how many pairs are open, how many steps, rungs or bytes were
-// written, 0 where refused.
+// written, 0 where refused. The place is always 0.
 typedef struct dawnhangra_count {
     uint8_t number;
     size_t place;
