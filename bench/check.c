@@ -265,7 +265,7 @@ static dawnhangra_session set_table(struct trial *t, const struct book *book, si
     }
     *open = LIBRARY.open_pairs(reply.session, table, sizeof table).count;
     if (chance(3)) {
-        damage(table, pairs, 3);
+        damage(table, pairs, 4);
     } else if (chance(12)) {
         for (size_t i = 0; i < pairs; i++) {
             table[i] = i % (n + 1) ? (uint8_t)pick(3) : DAWNHANGRA_YES;
@@ -348,10 +348,46 @@ static uint8_t compare(const struct call *call, const struct trial *t, size_t tr
     return number;
 }
 
+// All small tables: each that is not sound is refused, and no other. Chance alone would miss what takes several marks
+// at once.
+
+// The table whose marks are the digits of a number. With a diagonal all marks are digits; without, it is yes.
+static void spell(uint8_t *table, size_t n, size_t number, size_t base, bool diagonal)
+{
+    for (size_t i = 0; i < n * n; i++) {
+        table[i] = DAWNHANGRA_YES;
+        if (diagonal || i % (n + 1)) {
+            table[i] = (uint8_t)(number % base);
+            number /= base;
+        }
+    }
+}
+
+static size_t check_small(size_t n, size_t base, bool diagonal)
+{
+    uint8_t table[16];
+    size_t tables = 1;
+    for (size_t digits = diagonal ? n * n : n * n - n; digits > 0; digits--) {
+        tables *= base;
+    }
+    dawnhangra_session session = {n, 0};
+    for (size_t number = 0; number < tables; number++) {
+        spell(table, n, number, base, diagonal);
+        dawnhangra_count library = LIBRARY.open_pairs(session, table, n * n);
+        dawnhangra_count plain = PLAIN.open_pairs(session, table, n * n);
+        if (library.number != plain.number || library.count != plain.count) {
+            fail("table %zu of %zu classes: open_pairs gives %u and %zu in the library, %u and %zu in plain C", number,
+                n, library.number, library.count, plain.number, plain.count);
+        }
+    }
+    return tables;
+}
+
 void check_calls(void)
 {
     static struct trial t;
     unsigned seen[CALL_COUNT] = {0};
+    size_t small = check_small(2, 4, true) + check_small(3, 4, true) + check_small(4, 3, false);
     for (size_t trial = 0; trial < TRIALS; trial++) {
         make_trial(&t);
         for (size_t c = 0; c < CALL_COUNT; c++) {
@@ -367,6 +403,7 @@ void check_calls(void)
         }
     }
     printf(
-        "checked: plain C and the library agree on %d random and damaged calls, with every refusal of each call\n",
-        TRIALS * (int)CALL_COUNT);
+        "checked: plain C and the library agree on %zu small tables and on %d random and damaged calls, with every "
+        "refusal of each call\n",
+        small, TRIALS * (int)CALL_COUNT);
 }

@@ -324,13 +324,14 @@ static void spread(set *rows, set *columns, set xs, set ys)
     }
 }
 
-// An open pair (a, b) becomes yes. The sets are those of the table before.
-static void settle_yes(
+// An open pair (a, b) becomes yes. The sets are those of the table before. Gives the rows that may have changed.
+static set settle_yes(
     struct marks *rows, struct marks *columns, set under_a, set above_b, set not_above_a, set not_under_b)
 {
     spread(rows->yes, columns ? columns->yes : NULL, under_a, above_b);
     spread(rows->no, columns ? columns->no : NULL, not_above_a ? above_b : 0, not_above_a);
     spread(rows->no, columns ? columns->no : NULL, not_under_b, under_a);
+    return under_a | not_under_b | (not_above_a ? above_b : 0);
 }
 
 // An open pair becomes yes, or no, with all that follows, in the table.
@@ -340,8 +341,8 @@ static void settle_in_table(size_t n, struct standing *s, size_t a, size_t b, bo
     set above_a = rows->yes[a], above_b = rows->yes[b], not_above_a = rows->no[a];
     if (holds) {
         set under_a = column(rows->yes, s->all, a), not_under_b = column(rows->no, s->all, b);
-        settle_yes(rows, NULL, under_a, above_b, not_above_a, not_under_b);
-        unpack_rows(n, rows, under_a | not_under_b | (not_above_a ? above_b : 0), table);
+        set changed = settle_yes(rows, NULL, under_a, above_b, not_above_a, not_under_b);
+        unpack_rows(n, rows, changed, table);
     } else {
         spread(rows->no, NULL, above_a, column(rows->yes, s->all, b));
         unpack_rows(n, rows, above_a, table);
@@ -578,10 +579,12 @@ dawnhangra_count plain_ladder(
 
 enum { CLASS_COUNT = 1, YES_FACTS = 2, ANSWERS = 4, HEAD_BYTES = 3 };
 
-// What a book has said so far. It stays packed, by rows and by columns, up to the end of the reading.
+// What a book has said so far. It stays packed, by rows and by columns, up to the end of the reading; then the rows
+// that differ from the fresh table are put there.
 struct reading {
     dawnhangra_session session;
     struct marks rows, columns;
+    set changed;
 };
 
 static size_t width_of(uint8_t tag)
@@ -609,32 +612,30 @@ static uint8_t field_fault(const uint8_t *field, size_t left, bool is_first, siz
     return left - HEAD_BYTES < *size ? DAWNHANGRA_CUT_SHORT : DAWNHANGRA_ACCEPTED;
 }
 
-// The refusals of the class count; where there is none, a fresh table.
-static uint8_t read_count(struct reading *r, size_t n, size_t table_length)
+// The class count of a book: its refusal, or a fresh table.
+static uint8_t read_count(struct reading *r, size_t n, uint8_t *table, size_t table_length)
 {
-    if (n == 0 || n > MOST) {
-        return DAWNHANGRA_BAD_COUNT;
+    dawnhangra_reply reply = plain_fresh(n, table, table_length);
+    if (!reply.number) {
+        r->session = reply.session;
+        memset(&r->rows, 0, sizeof r->rows);
+        for (size_t a = 0; a < n; a++) {
+            r->rows.yes[swapped(a)] = one(swapped(a));
+        }
+        r->columns = r->rows;
     }
-    if (table_length < n * n) {
-        return DAWNHANGRA_SHORT_TABLE;
-    }
-    memset(&r->rows, 0, sizeof r->rows);
-    for (size_t a = 0; a < n; a++) {
-        r->rows.yes[swapped(a)] = one(swapped(a));
-    }
-    r->columns = r->rows;
-    r->session.classes = n;
-    return DAWNHANGRA_ACCEPTED;
+    return reply.number;
 }
 
-// An open pair becomes yes, or no, with all that follows.
-static void settle_packed(struct marks *rows, struct marks *columns, size_t a, size_t b, bool holds)
+// An open pair becomes yes, or no, with all that follows. Gives the rows that may have changed.
+static set settle_packed(struct marks *rows, struct marks *columns, size_t a, size_t b, bool holds)
 {
+    set above_a = rows->yes[a];
     if (holds) {
-        settle_yes(rows, columns, columns->yes[a], rows->yes[b], rows->no[a], columns->no[b]);
-    } else {
-        spread(rows->no, columns->no, rows->yes[a], columns->yes[b]);
+        return settle_yes(rows, columns, columns->yes[a], rows->yes[b], rows->no[a], columns->no[b]);
     }
+    spread(rows->no, columns->no, above_a, columns->yes[b]);
+    return above_a;
 }
 
 // A fact of a book: its refusal, or it is taken in.
@@ -653,48 +654,51 @@ static uint8_t read_fact(struct reading *r, uint8_t tag, const uint8_t *fact)
         return DAWNHANGRA_CONTRADICTED;
     }
     if (!has(verdict ? r->rows.yes[a] : r->rows.no[a], b)) {
-        settle_packed(&r->rows, &r->columns, a, b, verdict);
+        r->changed |= settle_packed(&r->rows, &r->columns, a, b, verdict);
         r->session.tests += tag == ANSWERS;
     }
     return DAWNHANGRA_ACCEPTED;
 }
 
-// Reads up to the first refusal or the end. Gives the number, and the place of a refusal.
-static uint8_t read_fields(
-    struct reading *r, const uint8_t *book, size_t book_length, size_t table_length, size_t *place)
+// The facts of a field, up to the first that is refused: its number, and its place in the contents.
+static uint8_t read_facts(struct reading *r, uint8_t tag, const uint8_t *contents, size_t size, size_t *place)
 {
-    size_t size;
-    for (size_t at = 0; at < book_length; at += HEAD_BYTES + size) {
-        uint8_t number = field_fault(book + at, book_length - at, at == 0, &size);
-        if (!number && book[at] == CLASS_COUNT) {
-            number = read_count(r, book[at + HEAD_BYTES], table_length);
-        }
+    size_t width = width_of(tag);
+    for (size_t i = 0; i < size; i += width) {
+        uint8_t number = read_fact(r, tag, contents + i);
         if (number) {
-            *place = at;
+            *place = i;
             return number;
         }
-        size_t width = book[at] == CLASS_COUNT ? size + 1 : width_of(book[at]);
-        for (size_t i = 0; i + width <= size; i += width) {
-            number = read_fact(r, book[at], book + at + HEAD_BYTES + i);
-            if (number) {
-                *place = at + HEAD_BYTES + i;
-                return number;
-            }
-        }
     }
-    return book_length ? DAWNHANGRA_ACCEPTED : DAWNHANGRA_MISPLACED_TAG;
+    return DAWNHANGRA_ACCEPTED;
 }
 
 dawnhangra_reply plain_read(const uint8_t *book, size_t book_length, uint8_t *table, size_t table_length)
 {
     struct reading r;
-    size_t place = 0;
+    uint8_t number = book_length ? DAWNHANGRA_ACCEPTED : DAWNHANGRA_MISPLACED_TAG;
+    size_t at = 0, size = 0, place = 0;
     r.session = (dawnhangra_session){0, 0};
-    uint8_t number = read_fields(&r, book, book_length, table_length, &place);
-    if (r.session.classes) {
-        unpack_rows(r.session.classes, &r.rows, everyone(r.session.classes), table);
+    r.changed = 0;
+    while (at < book_length) {
+        const uint8_t *field = book + at;
+        place = at;
+        number = field_fault(field, book_length - at, at == 0, &size);
+        if (!number && field[0] == CLASS_COUNT) {
+            number = read_count(&r, field[HEAD_BYTES], table, table_length);
+        } else if (!number) {
+            size_t within = 0;
+            number = read_facts(&r, field[0], field + HEAD_BYTES, size, &within);
+            place += HEAD_BYTES + within;
+        }
+        if (number) {
+            break;
+        }
+        at += HEAD_BYTES + size;
     }
-    return replied(number, place, r.session);
+    unpack_rows(r.session.classes, &r.rows, r.changed, table);
+    return replied(number, number ? place : 0, r.session);
 }
 
 static uint8_t *put_head(uint8_t *out, uint8_t tag, size_t size)
