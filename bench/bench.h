@@ -100,7 +100,7 @@ struct input {
 void make_input(struct input *in, const struct table_kind *kind);
 
 // Holds plain C to the library on random and damaged sessions, tables, buffers and books. Says how many calls were
-// compared, and ends with a failure where two differ.
+// compared, and ends the program with status 1 where two differ.
 void check_calls(void);
 
 #endif

@@ -2,7 +2,9 @@
 // the same answer and leave the same bytes, also behind what was lent.
 #include "bench.h"
 
+#include <stdarg.h>
 #include <stdio.h>
+#include <stdlib.h>
 #include <string.h>
 
 #ifndef GUARD
@@ -35,6 +37,21 @@ struct outcome {
     struct buffer table, first, second;
     struct answer answer;
 };
+
+// Calls compared so far.
+static size_t passed;
+
+// Says what failed, and ends the check.
+static void end_check(const char *format, ...)
+{
+    va_list values;
+    va_start(values, format);
+    printf("FAILED: ");
+    vprintf(format, values);
+    va_end(values);
+    printf("\n%zu passed, 1 failed\n", passed);
+    exit(EXIT_FAILURE);
+}
 
 static uint8_t *bytes_of(struct buffer *b)
 {
@@ -341,10 +358,12 @@ static uint8_t compare(const struct call *call, const struct trial *t, size_t tr
     call->run(&PLAIN, t, &plain);
     uint8_t number = number_in(&library.answer);
     if (!same_outcome(&library, &plain)) {
-        fail(
-            "trial %zu: on %s with %zu classes the library's number is %u and plain C's %u, or their answers or bytes "
-            "differ", trial, call->name, t->session.classes, number, number_in(&plain.answer));
+        end_check(
+            "trial %zu: %s with %zu classes: the %s differ; the number is %u in the library and %u in plain C", trial,
+            call->name, t->session.classes, same_answer(&library.answer, &plain.answer) ? "bytes" : "answers", number,
+            number_in(&plain.answer));
     }
+    passed++;
     return number;
 }
 
@@ -363,7 +382,7 @@ static void spell(uint8_t *table, size_t n, size_t number, size_t base, bool dia
     }
 }
 
-static size_t check_small(size_t n, size_t base, bool diagonal)
+static void check_small(size_t n, size_t base, bool diagonal)
 {
     uint8_t table[16];
     size_t tables = 1;
@@ -376,18 +395,21 @@ static size_t check_small(size_t n, size_t base, bool diagonal)
         dawnhangra_count library = LIBRARY.open_pairs(session, table, n * n);
         dawnhangra_count plain = PLAIN.open_pairs(session, table, n * n);
         if (library.number != plain.number || library.count != plain.count) {
-            fail("table %zu of %zu classes: open_pairs gives %u and %zu in the library, %u and %zu in plain C", number,
+            end_check(
+                "table %zu of %zu classes: open_pairs gives %u and %zu in the library, %u and %zu in plain C", number,
                 n, library.number, library.count, plain.number, plain.count);
         }
+        passed++;
     }
-    return tables;
 }
 
 void check_calls(void)
 {
     static struct trial t;
     unsigned seen[CALL_COUNT] = {0};
-    size_t small = check_small(2, 4, true) + check_small(3, 4, true) + check_small(4, 3, false);
+    check_small(2, 4, true);
+    check_small(3, 4, true);
+    check_small(4, 3, false);
     for (size_t trial = 0; trial < TRIALS; trial++) {
         make_trial(&t);
         for (size_t c = 0; c < CALL_COUNT; c++) {
@@ -397,13 +419,11 @@ void check_calls(void)
     for (size_t c = 0; c < CALL_COUNT; c++) {
         for (unsigned number = 0; number < NUMBERS; number++) {
             if ((seen[c] ^ CALLS[c].numbers) >> number & 1) {
-                fail("the trials of %s %s number %u", CALLS[c].name,
+                end_check("the trials of %s %s number %u", CALLS[c].name,
                     seen[c] >> number & 1 ? "gave, though they may not," : "never gave", number);
             }
         }
     }
-    printf(
-        "checked: plain C and the library agree on %zu small tables and on %d random and damaged calls, with every "
-        "refusal of each call\n",
-        small, TRIALS * (int)CALL_COUNT);
+    printf("plain C held to the library on all small tables, and on damaged calls with every refusal of each call\n");
+    printf("%zu passed, 0 failed\n", passed);
 }
