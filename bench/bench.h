@@ -14,7 +14,6 @@ enum {
 
 // One of the two programs.
 struct program {
-    const char *name;
     dawnhangra_reply (*fresh)(size_t, uint8_t *, size_t);
     dawnhangra_reply (*tell)(dawnhangra_session, uint8_t *, size_t, size_t, size_t, bool);
     dawnhangra_reply (*answer)(dawnhangra_session, uint8_t *, size_t, size_t, size_t, bool);
@@ -62,14 +61,14 @@ struct fact {
     bool holds;
 };
 
+// A book in the making: its last field begins at field.
 struct book {
-    size_t length;
+    size_t length, field;
     uint8_t bytes[MOST_BOOK];
 };
 
+// A book with a class count, then a field of facts, then facts: the length of the field is kept right.
 void begin_book(struct book *book, size_t n);
-
-// Adds a field with the tag of facts that are answered, or told, to a book.
 void begin_field(struct book *book, uint8_t tag);
 void add_fact(struct book *book, const struct fact *fact);
 

@@ -7,11 +7,11 @@
 #include <string.h>
 
 const struct program LIBRARY = {
-    "the library", dawnhangra_fresh, dawnhangra_tell, dawnhangra_answer, dawnhangra_clip, dawnhangra_next,
+    dawnhangra_fresh, dawnhangra_tell, dawnhangra_answer, dawnhangra_clip, dawnhangra_next,
     dawnhangra_open_pairs, dawnhangra_hierarchy, dawnhangra_ladder, dawnhangra_read, dawnhangra_write};
 
 const struct program PLAIN = {
-    "plain C", plain_fresh, plain_tell, plain_answer, plain_clip, plain_next, plain_open_pairs, plain_hierarchy,
+    plain_fresh, plain_tell, plain_answer, plain_clip, plain_next, plain_open_pairs, plain_hierarchy,
     plain_ladder, plain_read, plain_write};
 
 const struct table_kind TABLE_KINDS[TABLES] = {
@@ -139,12 +139,9 @@ void begin_book(struct book *book, size_t n)
     book->length = sizeof head;
 }
 
-// The length of a field is that of what was added since. It is kept right as facts are added.
-static size_t last_field;
-
 void begin_field(struct book *book, uint8_t tag)
 {
-    last_field = book->length;
+    book->field = book->length;
     const uint8_t head[] = {tag, 0, 0};
     memcpy(book->bytes + book->length, head, sizeof head);
     book->length += sizeof head;
@@ -152,12 +149,12 @@ void begin_field(struct book *book, uint8_t tag)
 
 void add_fact(struct book *book, const struct fact *fact)
 {
-    uint8_t *field = book->bytes + last_field;
+    uint8_t *field = book->bytes + book->field;
     const uint8_t bytes[] = {(uint8_t)fact->lower, (uint8_t)fact->upper, fact->holds};
     size_t width = field[0] == 4 ? 3 : 2;
     memcpy(book->bytes + book->length, bytes, width);
     book->length += width;
-    size_t size = book->length - last_field - 3;
+    size_t size = book->length - book->field - 3;
     field[1] = (uint8_t)(size >> 8);
     field[2] = (uint8_t)size;
 }

@@ -74,8 +74,8 @@ static size_t lowest_class(set s)
 
 // Rows of bytes, packed and unpacked.
 
-#define EVEN_BITS 0x5555555555555555
-#define MARK_BITS 0x0303030303030303
+static const uint64_t EVEN_BITS = 0x5555555555555555;
+static const uint64_t MARK_BITS = 0x0303030303030303;
 
 // By slot: the classes that each class is under, and those that it is not under.
 struct marks {
