@@ -13,6 +13,7 @@
 
 enum {
     TRIALS = 20000,
+    PLACED = 10000,
     MOST_FLAGS = MOST + 12,
     ROOM = MOST_BOOK + GUARD, // for any of the buffers
     NUMBERS = 16
@@ -367,8 +368,21 @@ static uint8_t compare(const struct call *call, const struct trial *t, size_t tr
     return number;
 }
 
-// All small tables: each that is not sound is refused, and no other. Chance alone would miss what takes several marks
-// at once.
+// All small tables, alone and within large ones: each that is not sound is refused, and no other. Chance alone would
+// miss what takes several marks at once.
+
+static void compare_open_pairs(size_t n, const uint8_t *table, size_t number)
+{
+    dawnhangra_session session = {n, 0};
+    dawnhangra_count library = LIBRARY.open_pairs(session, table, n * n);
+    dawnhangra_count plain = PLAIN.open_pairs(session, table, n * n);
+    if (library.number != plain.number || library.count != plain.count) {
+        end_check(
+            "small table %zu in %zu classes: open_pairs gives %u and %zu in the library, %u and %zu in plain C", number,
+            n, library.number, library.count, plain.number, plain.count);
+    }
+    passed++;
+}
 
 // The table whose marks are the digits of a number. With a diagonal all marks are digits; without, it is yes.
 static void spell(uint8_t *table, size_t n, size_t number, size_t base, bool diagonal)
@@ -382,25 +396,33 @@ static void spell(uint8_t *table, size_t n, size_t number, size_t base, bool dia
     }
 }
 
+static size_t power(size_t base, size_t digits)
+{
+    return digits ? base * power(base, digits - 1) : 1;
+}
+
 static void check_small(size_t n, size_t base, bool diagonal)
 {
     uint8_t table[16];
-    size_t tables = 1;
-    for (size_t digits = diagonal ? n * n : n * n - n; digits > 0; digits--) {
-        tables *= base;
-    }
-    dawnhangra_session session = {n, 0};
-    for (size_t number = 0; number < tables; number++) {
+    for (size_t number = 0; number < power(base, diagonal ? n * n : n * n - n); number++) {
         spell(table, n, number, base, diagonal);
-        dawnhangra_count library = LIBRARY.open_pairs(session, table, n * n);
-        dawnhangra_count plain = PLAIN.open_pairs(session, table, n * n);
-        if (library.number != plain.number || library.count != plain.count) {
-            end_check(
-                "table %zu of %zu classes: open_pairs gives %u and %zu in the library, %u and %zu in plain C", number,
-                n, library.number, library.count, plain.number, plain.count);
-        }
-        passed++;
+        compare_open_pairs(n, table, number);
     }
+}
+
+// The marks of three classes go to any three of a fresh table.
+static void check_placed(size_t number)
+{
+    static uint8_t table[MOST_PAIRS];
+    uint8_t marks[9];
+    size_t n = 3 + pick(MOST - 2), third = n / 3, shift = pick(n);
+    size_t at[] = {pick(third), third + pick(third), 2 * third + pick(third)};
+    spell(marks, 3, number, 3, false);
+    LIBRARY.fresh(n, table, sizeof table);
+    for (size_t i = 0; i < 9; i++) {
+        table[(at[i / 3] + shift) % n * n + (at[i % 3] + shift) % n] = marks[i];
+    }
+    compare_open_pairs(n, table, number);
 }
 
 void check_calls(void)
@@ -410,6 +432,9 @@ void check_calls(void)
     check_small(2, 4, true);
     check_small(3, 4, true);
     check_small(4, 3, false);
+    for (size_t i = 0; i < PLACED; i++) {
+        check_placed(i % power(3, 6));
+    }
     for (size_t trial = 0; trial < TRIALS; trial++) {
         make_trial(&t);
         for (size_t c = 0; c < CALL_COUNT; c++) {
