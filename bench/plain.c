@@ -82,6 +82,7 @@ struct marks {
     set yes[MOST], no[MOST];
 };
 
+// Eight bytes, the first one lowest, as on any x86-64.
 static uint64_t get_eight(const uint8_t *bytes)
 {
     uint64_t eight;
@@ -614,9 +615,10 @@ struct reading {
     set changed;
 };
 
+// The bytes of a fact.
 static size_t width_of(uint8_t tag)
 {
-    return tag == CLASS_COUNT ? 1 : tag == ANSWERS ? 3 : 2;
+    return tag == ANSWERS ? 3 : 2;
 }
 
 // What is wrong with a field's head and length, and the size of its contents.
