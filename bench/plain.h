@@ -1,4 +1,4 @@
-// The calls of dawnhangra.h in plain C: the same answers, the same bytes.
+// The calls of dawnhangra.h in plain C: the same answers, the same refusals in the same order, the same bytes.
 #ifndef PLAIN_H
 #define PLAIN_H
 
@@ -16,6 +16,8 @@ dawnhangra_reply plain_clip(
     dawnhangra_session session, uint8_t *table, size_t table_length, const uint8_t *played, size_t played_length);
 
 dawnhangra_question plain_next(dawnhangra_session session, const uint8_t *table, size_t table_length);
+
+dawnhangra_count plain_open_pairs(dawnhangra_session session, const uint8_t *table, size_t table_length);
 
 dawnhangra_count plain_hierarchy(
     dawnhangra_session session, const uint8_t *table, size_t table_length, uint8_t *heads, size_t heads_length,
