@@ -184,7 +184,7 @@ pub data Mark : Type 0 where
   next-not-sound-first next-overcounted next-all-tested open-no-class open-short-table open-not-sound : Mark
   open-overcounted tell-129-classes tell-overcounted-first tell-lower-beyond tell-upper-beyond : Mark
   hierarchy-short-steps hierarchy-short-heads hierarchy-open-first hierarchy-open ladder-short ladder-fits : Mark
-  ladder-equal ladder-beyond-first ladder-open-first ladder-open write-short write-one-class : Mark
+  ladder-equal ladder-beyond-first ladder-open-first ladder-open write-short write-one-class write-open : Mark
   example-read example-cut-read example-cut-open example-cut-asks : Mark
   book-empty book-cut-head book-cut-head-first book-unknown-tag book-tag-zero book-misplaced : Mark
   book-misplaced-first book-two-counts book-length-first book-no-count book-cut-contents book-no-class : Mark
@@ -287,6 +287,10 @@ row Mark.ladder-open = Input.ladder (started 2) oneOpen 0 0 (nines 2) gives (Ref
 row Mark.write-short = Input.write (three 0) p8 (nines 21) gives (Refused 8 0, nines 21)
 row Mark.write-one-class =
     Input.write (started 1) (1 ∷ []) (nines 11) gives (Count 10, 1 ∷ 0 ∷ 1 ∷ 1 ∷ 2 ∷ 0 ∷ 0 ∷ 3 ∷ 0 ∷ 0 ∷ 9 ∷ [])
+-- pairs that are open are no refusal, and not in the book
+row Mark.write-open =
+    Input.write (three 0) p7 (nines 19)
+    gives (Count 18, 1 ∷ 0 ∷ 1 ∷ 3 ∷ 2 ∷ 0 ∷ 6 ∷ 0 ∷ 1 ∷ 0 ∷ 2 ∷ 1 ∷ 2 ∷ 3 ∷ 0 ∷ 2 ∷ 2 ∷ 0 ∷ 9 ∷ [])
 -- 01's printed example, whole and without its last six bytes
 row Mark.example-read = book example gives (replied 0 0 (three 1), p8)
 row Mark.example-cut-read = bookOfThree (2 ∷ 0 ∷ 6 ∷ 0 ∷ 1 ∷ 1 ∷ 2 ∷ 2 ∷ 1 ∷ []) gives (replied 0 0 (three 0), printed)

@@ -142,6 +142,7 @@ computed Mark.ladder-open-first = refl
 computed Mark.ladder-open = refl
 computed Mark.write-short = refl
 computed Mark.write-one-class = refl
+computed Mark.write-open = refl
 computed Mark.example-read = refl
 computed Mark.example-cut-read = refl
 computed Mark.example-cut-open = refl
