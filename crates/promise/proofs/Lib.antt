@@ -11,7 +11,6 @@ pub mod AnyOrder
 pub mod OneByOne
 pub mod Next
 pub mod Counts
-pub mod Crossing
 pub mod Hierarchy
 pub mod Ladder
 pub mod Tags
@@ -19,6 +18,7 @@ pub mod Items
 pub mod Book
 pub mod Read
 pub mod Write
+pub mod Crossing
 pub mod Lengths
 pub mod BookSays
 pub mod ReadBack

@@ -23,10 +23,10 @@ pub data Input : Type 0 where
   clip : (s : Session) (t : List ℕ) (played : List Bool) → Input
   clipBytes : (s : Session) (t bytes : List ℕ) → Input
   next nextForC openPairs openPairsForC : (s : Session) (t : List ℕ) → Input
-  hierarchy : (s : Session) (t heads steps : List ℕ) → Input
+  hierarchy hierarchyForC : (s : Session) (t heads steps : List ℕ) → Input
   ladder ladderForC : (s : Session) (t : List ℕ) (a b : ℕ) (out : List ℕ) → Input
   read : (book t : List ℕ) → Input
-  write : (s : Session) (t out : List ℕ) → Input
+  write writeForC : (s : Session) (t out : List ℕ) → Input
 
 -- all that comes out
 abbrev pub Outcome : Input → Type 0
@@ -39,10 +39,12 @@ Outcome (Input.nextForC s t) = CrossedQuestion
 Outcome (Input.openPairs s t) = Counted
 Outcome (Input.openPairsForC s t) = CrossedCount
 Outcome (Input.hierarchy s t heads steps) = Counted × (List ℕ × List ℕ)
+Outcome (Input.hierarchyForC s t heads steps) = CrossedCount × (List ℕ × List ℕ)
 Outcome (Input.ladder s t a b out) = Counted × List ℕ
 Outcome (Input.ladderForC s t a b out) = CrossedCount × List ℕ
 Outcome (Input.read book t) = Reply × List ℕ
 Outcome (Input.write s t out) = Counted × List ℕ
+Outcome (Input.writeForC s t out) = CrossedCount × List ℕ
 
 -- a row of the table
 pub record Row : Type 0 where
@@ -184,7 +186,7 @@ pub data Mark : Type 0 where
   next-not-sound-first next-overcounted next-all-tested open-no-class open-short-table open-not-sound : Mark
   open-overcounted tell-129-classes tell-overcounted-first tell-lower-beyond tell-upper-beyond : Mark
   hierarchy-short-steps hierarchy-short-heads hierarchy-open-first hierarchy-open ladder-short ladder-fits : Mark
-  ladder-equal ladder-beyond-first ladder-open-first ladder-open write-short write-one-class : Mark
+  ladder-equal ladder-beyond-first ladder-open-first ladder-open write-short write-one-class write-open : Mark
   example-read example-cut-read example-cut-open example-cut-asks : Mark
   book-empty book-cut-head book-cut-head-first book-unknown-tag book-tag-zero book-misplaced : Mark
   book-misplaced-first book-two-counts book-length-first book-no-count book-cut-contents book-no-class : Mark
@@ -199,7 +201,8 @@ pub data Mark : Type 0 where
   clip-beyond clip-beyond-first clip-overcounted-first clip-not-sound-first clip-short-table clip-129-classes : Mark
   bytes-of-two bytes-more-flags bytes-too-few bytes-too-many bytes-beyond bytes-contradict : Mark
   bytes-overcounted-first : Mark
-  C-asks C-done C-next-refused C-open C-open-refused C-ladder C-ladder-refused : Mark
+  C-asks C-done C-next-refused C-open C-open-refused C-hierarchy C-hierarchy-refused C-ladder : Mark
+  C-ladder-refused C-write C-write-refused : Mark
 
 abbrev pub row : Mark → Row
 -- P1
@@ -287,6 +290,10 @@ row Mark.ladder-open = Input.ladder (started 2) oneOpen 0 0 (nines 2) gives (Ref
 row Mark.write-short = Input.write (three 0) p8 (nines 21) gives (Refused 8 0, nines 21)
 row Mark.write-one-class =
     Input.write (started 1) (1 ∷ []) (nines 11) gives (Count 10, 1 ∷ 0 ∷ 1 ∷ 1 ∷ 2 ∷ 0 ∷ 0 ∷ 3 ∷ 0 ∷ 0 ∷ 9 ∷ [])
+-- pairs that are open are no refusal, and not in the book
+row Mark.write-open =
+    Input.write (three 0) p7 (nines 19)
+    gives (Count 18, 1 ∷ 0 ∷ 1 ∷ 3 ∷ 2 ∷ 0 ∷ 6 ∷ 0 ∷ 1 ∷ 0 ∷ 2 ∷ 1 ∷ 2 ∷ 3 ∷ 0 ∷ 2 ∷ 2 ∷ 0 ∷ 9 ∷ [])
 -- 01's printed example, whole and without its last six bytes
 row Mark.example-read = book example gives (replied 0 0 (three 1), p8)
 row Mark.example-cut-read = bookOfThree (2 ∷ 0 ∷ 6 ∷ 0 ∷ 1 ∷ 1 ∷ 2 ∷ 2 ∷ 1 ∷ []) gives (replied 0 0 (three 0), printed)
@@ -371,5 +378,11 @@ row Mark.C-done = Input.nextForC (three 0) p8 gives askedForC 0 0 false 0 0
 row Mark.C-next-refused = Input.nextForC (three 1) p2 gives askedForC 4 0 false 0 0
 row Mark.C-open = Input.openPairsForC (three 0) p7 gives countedForC 0 0 2
 row Mark.C-open-refused = Input.openPairsForC (three 0) unsound gives countedForC 3 0 0
+row Mark.C-hierarchy =
+    Input.hierarchyForC (three 0) p8 (nines 4) (nines 3) gives (countedForC 0 0 1, (0 ∷ 1 ∷ 1 ∷ 9 ∷ [], 0 ∷ 1 ∷ 9 ∷ []))
+row Mark.C-hierarchy-refused =
+    Input.hierarchyForC four p11 (nines 4) (nines 7) gives (countedForC 8 0 0, (nines 4, nines 7))
 row Mark.C-ladder = Input.ladderForC four p11 0 3 (nines 4) gives (countedForC 0 0 3, 0 ∷ 1 ∷ 3 ∷ 9 ∷ [])
 row Mark.C-ladder-refused = Input.ladderForC four p11 0 3 (nines 2) gives (countedForC 8 0 0, nines 2)
+row Mark.C-write = Input.writeForC (three 0) p8 (nines 22) gives (countedForC 0 0 22, p12)
+row Mark.C-write-refused = Input.writeForC (three 0) p8 (nines 21) gives (countedForC 8 0 0, nines 21)

@@ -24,6 +24,7 @@ use Rattle.promise.proofs.Clips.{beyond?, clip-contradicts?, clipped-no
 use Rattle.promise.proofs.Next.{first-of, next-there}
 use Rattle.promise.proofs.Counts.{too-short?, writes-there, open-pairs-there}
 use Rattle.promise.proofs.Crossing.{next-for-C-there, open-pairs-for-C-there, writes-for-C-there}
+use Rattle.promise.proofs.Crossing.{hierarchy-for-C-there, ladder-for-C-there, write-for-C-there}
 use Rattle.promise.proofs.Hierarchy.{under?, equal?, head-of?, head?, third?, direct?, head-there, list-there}
 use Rattle.promise.proofs.Hierarchy.{heads-there, hierarchy-there}
 use Rattle.promise.proofs.Ladder.{number-there, above?, to-go, between, direct-there, rung-there, rungs-there}
@@ -44,10 +45,12 @@ Owes (Input.nextForC s t) = Owed (nextForC s t)
 Owes (Input.openPairs s t) = Owed (openPairs s t)
 Owes (Input.openPairsForC s t) = Owed (countForC (openPairs s t))
 Owes (Input.hierarchy s t heads steps) = Owed (hierarchy s t heads steps)
+Owes (Input.hierarchyForC s t heads steps) = Owed (writesForC (hierarchy s t heads steps))
 Owes (Input.ladder s t a b out) = Owed (ladder s t a b out)
 Owes (Input.ladderForC s t a b out) = Owed (writesForC (ladder s t a b out))
 Owes (Input.read book t) = λ o. BookRead book t (o .0) (o .1)
 Owes (Input.write s t out) = Owed (write s t out)
+Owes (Input.writeForC s t out) = Owed (writesForC (write s t out))
 
 abbrev pub Meets : Row → Type 0
 Meets row = Owes (row .input) (row .outcome)
@@ -63,11 +66,12 @@ there (Input.nextForC s t) = next-for-C-there s t
 there (Input.openPairs s t) = open-pairs-there s t
 there (Input.openPairsForC s t) = open-pairs-for-C-there s t
 there (Input.hierarchy s t heads steps) = hierarchy-there s t heads steps
+there (Input.hierarchyForC s t heads steps) = hierarchy-for-C-there s t heads steps
 there (Input.ladder s t a b out) = ladder-written-there s t a b out
-there (Input.ladderForC s t a b out) =
-    writes-for-C-there (ladder s t a b out) (λ o. refl) (ladder-written-there s t a b out)
+there (Input.ladderForC s t a b out) = ladder-for-C-there s t a b out
 there (Input.read book t) = let q = read-there book t in ((q .0, q .1), q .2)
 there (Input.write s t out) = write-there s t out
+there (Input.writeForC s t out) = write-for-C-there s t out
 
 -- it is the outcome that the row has
 computed : (m : Mark) → there (row m .input) .0 ≡ row m .outcome
@@ -79,7 +83,7 @@ unfolding mark opensTo decLt decLe ℕ-discrete both either implies negated as-w
     heads-there too-short? hierarchy-there number-there above? to-go between direct-there rung-there rungs-there
     ladder-there ladder-made writes-there ladder-written-there writes-for-C-there rowOf factsFrom itemsFrom
     row-there field-there goes-there verdict-there made-there follows-there read-there off? book-there
-    write-there
+    write-there hierarchy-for-C-there ladder-for-C-there write-for-C-there
 computed Mark.P1-fresh = refl
 computed Mark.P1-done = refl
 computed Mark.P2-fresh = refl
@@ -142,6 +146,7 @@ computed Mark.ladder-open-first = refl
 computed Mark.ladder-open = refl
 computed Mark.write-short = refl
 computed Mark.write-one-class = refl
+computed Mark.write-open = refl
 computed Mark.example-read = refl
 computed Mark.example-cut-read = refl
 computed Mark.example-cut-open = refl
@@ -205,8 +210,12 @@ computed Mark.C-done = refl
 computed Mark.C-next-refused = refl
 computed Mark.C-open = refl
 computed Mark.C-open-refused = refl
+computed Mark.C-hierarchy = refl
+computed Mark.C-hierarchy-refused = refl
 computed Mark.C-ladder = refl
 computed Mark.C-ladder-refused = refl
+computed Mark.C-write = refl
+computed Mark.C-write-refused = refl
 
 -- P1 to P12, and the other worked marks that say something of the definitions
 pub met : (m : Mark) → Meets (row m)
