@@ -171,6 +171,7 @@ computed Mark.later-yes-length = refl
 computed Mark.later-no-length = refl
 computed Mark.later-answers-length = refl
 computed Mark.later-cut-contents = refl
+computed Mark.later-long-length = refl
 computed Mark.later-verdict = refl
 computed Mark.later-verdict-first = refl
 computed Mark.later-class-beyond = refl
