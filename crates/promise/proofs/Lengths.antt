@@ -161,8 +161,10 @@ small-bytes (p ∷ l) h =
 -- "two-byte length": every length up to 65,535 can be written
 pub field-bytes :
     (tag : ℕ) (bytes : List ℕ) → tag < 256 → length bytes ≤ 65535 → Small bytes → Small (field tag bytes)
-field-bytes tag bytes ht hl h =
-    (ht, (div-lt-iff-lt-mul {k = 256} (omega arith) .1 (omega arith), (mod-lt (length bytes) {m = 256} (omega arith), h)))
+field-bytes tag bytes ht hl h = (
+  ht,
+  (div-lt-iff-lt-mul {k = 256} (omega arith) .1 (omega arith), (mod-lt (length bytes) {m = 256} (omega arith), h)),
+)
 
 pub book-bytes : {n : ℕ} {t book : List ℕ} → BookOf n t book → n ≤ 128 → Small book
 book-bytes {n} {t} h few =
