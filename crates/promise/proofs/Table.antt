@@ -197,7 +197,7 @@ pub data Mark : Type 0 where
   clip-of-none clip-of-all : Mark
   clip-first-contradicts clip-later-contradicts : Mark
   clip-beyond clip-beyond-first clip-overcounted-first clip-not-sound-first clip-short-table clip-129-classes : Mark
-  bytes-of-two bytes-more-flags bytes-too-few bytes-too-many bytes-beyond bytes-contradict : Mark
+  bytes-of-two bytes-more-flags bytes-too-few bytes-most-flags bytes-too-many bytes-beyond bytes-contradict : Mark
   bytes-overcounted-first : Mark
   C-asks C-done C-next-refused C-open C-open-refused C-ladder C-ladder-refused : Mark
 
@@ -361,6 +361,7 @@ row Mark.clip-129-classes = Input.clip (started 129) [] (true ∷ []) gives (rep
 row Mark.bytes-of-two = Input.clipBytes (three 0) afterYes (1 ∷ 7 ∷ 0 ∷ []) gives (replied 0 0 (three 0), p4)
 row Mark.bytes-more-flags = Input.clipBytes (three 0) afterYes (1 ∷ 7 ∷ 0 ∷ 0 ∷ []) gives (replied 0 0 (three 0), p4)
 row Mark.bytes-too-few = Input.clipBytes (three 0) afterYes (1 ∷ 1 ∷ []) gives (replied 5 0 (three 0), afterYes)
+row Mark.bytes-most-flags = Input.clipBytes (three 0) afterYes (1 ∷ 1 ∷ times 126 0) gives (replied 0 0 (three 0), p4)
 row Mark.bytes-too-many =
     Input.clipBytes (three 0) afterYes (1 ∷ 1 ∷ times 127 0) gives (replied 5 0 (three 0), afterYes)
 row Mark.bytes-beyond = Input.clipBytes (three 0) afterYes (1 ∷ 1 ∷ 0 ∷ 1 ∷ []) gives (replied 5 0 (three 0), afterYes)

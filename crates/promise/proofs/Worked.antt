@@ -197,6 +197,7 @@ computed Mark.clip-129-classes = refl
 computed Mark.bytes-of-two = refl
 computed Mark.bytes-more-flags = refl
 computed Mark.bytes-too-few = refl
+computed Mark.bytes-most-flags = refl
 computed Mark.bytes-too-many = refl
 computed Mark.bytes-beyond = refl
 computed Mark.bytes-contradict = refl
