@@ -196,19 +196,22 @@ small-bytes (p ∷ l) h =
     let r = h (p .0) (p .1) (List·Memᴰ·head refl) in
     (r .0, (r .1, small-bytes l (λ a b i. h a b (List·Memᴰ·tail i))))
 
-small-field :
-    (tag : ℕ) (bytes : List ℕ) → tag < 256 → length bytes < 256 * 256 → Small bytes → Small (field tag bytes)
-small-field tag bytes ht hl h =
-    (ht, (div-lt-iff-lt-mul {k = 256} (omega arith) .1 hl, (mod-lt (length bytes) {m = 256} (omega arith), h)))
+-- "two-byte length": every length up to 65,535 can be written
+pub field-bytes :
+    (tag : ℕ) (bytes : List ℕ) → tag < 256 → length bytes ≤ 65535 → Small bytes → Small (field tag bytes)
+field-bytes tag bytes ht hl h = (
+  ht,
+  (div-lt-iff-lt-mul {k = 256} (omega arith) .1 (omega arith), (mod-lt (length bytes) {m = 256} (omega arith), h)),
+)
 
 pub book-bytes : {n : ℕ} {t book : List ℕ} → BookOf n t book → n ≤ 128 → Small book
 book-bytes {n} {t} h few =
     rw (h .bytes)
     (small-append (field 1 (n ∷ [])) (field 2 (bytesOf (h .yes-pairs)) ++ field 3 (bytesOf (h .no-pairs))) (omega arith)
     (small-append (field 2 (bytesOf (h .yes-pairs))) (field 3 (bytesOf (h .no-pairs)))
-    (small-field 2 (bytesOf (h .yes-pairs)) (omega arith) (omega (arith, pairs, length-bytes (h .yes-pairs)))
+    (field-bytes 2 (bytesOf (h .yes-pairs)) (omega arith) (omega (arith, pairs, length-bytes (h .yes-pairs)))
     (each (h .yes-listed)))
-    (small-field 3 (bytesOf (h .no-pairs)) (omega arith) (omega (arith, pairs, length-bytes (h .no-pairs)))
+    (field-bytes 3 (bytesOf (h .no-pairs)) (omega arith) (omega (arith, pairs, length-bytes (h .no-pairs)))
     (each (h .no-listed)))))
   where
     pairs : length (h .yes-pairs) + length (h .no-pairs) ≤ 16256

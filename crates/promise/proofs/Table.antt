@@ -192,14 +192,14 @@ pub data Mark : Type 0 where
   book-misplaced-first book-two-counts book-length-first book-no-count book-cut-contents book-no-class : Mark
   book-129-classes book-short-table : Mark
   book-count-alone later-cut-head later-cut-length later-unknown-tag later-tag-zero later-tag-five : Mark
-  later-second-count later-yes-length later-no-length later-answers-length later-cut-contents later-verdict : Mark
-  later-verdict-first later-class-beyond later-second-verdict later-contradicts later-far : Mark
+  later-second-count later-yes-length later-no-length later-answers-length later-cut-contents later-long-length : Mark
+  later-verdict later-verdict-first later-class-beyond later-second-verdict later-contradicts later-far : Mark
   book-no-answers book-answers : Mark
   clip-of-two clip-of-second clip-of-one clip-rest-kept : Mark
   clip-of-none clip-of-all : Mark
   clip-first-contradicts clip-later-contradicts : Mark
   clip-beyond clip-beyond-first clip-overcounted-first clip-not-sound-first clip-short-table clip-129-classes : Mark
-  bytes-of-two bytes-more-flags bytes-too-few bytes-too-many bytes-beyond bytes-contradict : Mark
+  bytes-of-two bytes-more-flags bytes-too-few bytes-most-flags bytes-too-many bytes-beyond bytes-contradict : Mark
   bytes-overcounted-first : Mark
   C-asks C-done C-next-refused C-open C-open-refused C-hierarchy C-hierarchy-refused C-ladder : Mark
   C-ladder-refused C-write C-write-refused : Mark
@@ -326,6 +326,7 @@ row Mark.later-yes-length = bookOfThree (2 ∷ 0 ∷ 5 ∷ 0 ∷ []) gives (repl
 row Mark.later-no-length = bookOfThree (3 ∷ 0 ∷ 1 ∷ 0 ∷ []) gives (replied 13 4 (three 0), p2)
 row Mark.later-answers-length = bookOfThree (4 ∷ 0 ∷ 2 ∷ 0 ∷ 1 ∷ []) gives (replied 13 4 (three 0), p2)
 row Mark.later-cut-contents = bookOfThree (2 ∷ 0 ∷ 4 ∷ 0 ∷ 1 ∷ 1 ∷ []) gives (replied 10 4 (three 0), p2)
+row Mark.later-long-length = bookOfThree (2 ∷ 1 ∷ 0 ∷ []) gives (replied 10 4 (three 0), p2)
 row Mark.later-verdict = bookOfThree (4 ∷ 0 ∷ 3 ∷ 1 ∷ 0 ∷ 2 ∷ []) gives (replied 14 7 (three 0), p2)
 row Mark.later-verdict-first = bookOfThree (4 ∷ 0 ∷ 3 ∷ 3 ∷ 0 ∷ 2 ∷ []) gives (replied 14 7 (three 0), p2)
 row Mark.later-class-beyond = bookOfThree (4 ∷ 0 ∷ 6 ∷ 3 ∷ 0 ∷ 1 ∷ 0 ∷ 1 ∷ 2 ∷ []) gives (replied 5 7 (three 0), p2)
@@ -367,6 +368,7 @@ row Mark.clip-129-classes = Input.clip (started 129) [] (true ∷ []) gives (rep
 row Mark.bytes-of-two = Input.clipBytes (three 0) afterYes (1 ∷ 7 ∷ 0 ∷ []) gives (replied 0 0 (three 0), p4)
 row Mark.bytes-more-flags = Input.clipBytes (three 0) afterYes (1 ∷ 7 ∷ 0 ∷ 0 ∷ []) gives (replied 0 0 (three 0), p4)
 row Mark.bytes-too-few = Input.clipBytes (three 0) afterYes (1 ∷ 1 ∷ []) gives (replied 5 0 (three 0), afterYes)
+row Mark.bytes-most-flags = Input.clipBytes (three 0) afterYes (1 ∷ 1 ∷ times 126 0) gives (replied 0 0 (three 0), p4)
 row Mark.bytes-too-many =
     Input.clipBytes (three 0) afterYes (1 ∷ 1 ∷ times 127 0) gives (replied 5 0 (three 0), afterYes)
 row Mark.bytes-beyond = Input.clipBytes (three 0) afterYes (1 ∷ 1 ∷ 0 ∷ 1 ∷ []) gives (replied 5 0 (three 0), afterYes)
