@@ -13,7 +13,7 @@ use Rattle.promise.specs.Calls.{Owed, openPairs, countForC, writesForC}
 use Rattle.promise.specs.Tell.{fresh, tell}
 use Rattle.promise.specs.Clips.{clip, clipBytes}
 use Rattle.promise.specs.Next.{next, nextForC}
-use Rattle.promise.specs.Hierarchy.{hierarchy, ladder}
+use Rattle.promise.specs.Hierarchy.{hierarchy, ladder, Above, Number}
 use Rattle.promise.specs.Book.{rowOf, factsFrom, itemsFrom, BookRead, write}
 use Rattle.promise.proofs.Flags.{set?, flagged?}
 use Rattle.promise.proofs.Standing.{standing-there}
@@ -32,7 +32,7 @@ use Rattle.promise.proofs.Ladder.{ladder-there, ladder-made, ladder-wri
 use Rattle.promise.proofs.Tags.{row-there, field-there}
 use Rattle.promise.proofs.Read.{goes-there, verdict-there, made-there, follows-there, read-there}
 use Rattle.promise.proofs.Write.{off?, book-there, write-there}
-use Rattle.promise.proofs.Table.{Input, Outcome, Row, Mark, row}
+use Rattle.promise.proofs.Table.{Input, Outcome, Row, Mark, row, p8, p11}
 
 -- an outcome that a call owes
 abbrev pub Owes : (i : Input) → Outcome i → Type 0
@@ -222,3 +222,10 @@ computed Mark.C-write-refused = refl
 -- P1 to P12, and the other worked marks that say something of the definitions
 pub met : (m : Mark) → Meets (row m)
 met m = subst (Owes (row m .input)) (computed m) (there (row m .input) .1)
+
+-- "the number of heads strictly above the rung and under the goal": of P8's table from 0 on to 1 it is 1, though 2 is
+-- equal to 1; of P11's from 0 on to 1, though 2 and 3 are above 0 too, and from 1 on to 3, though 0 and 2 are under 3
+pub above-worked : Number (Above 3 p8 1 0) 3 1 × Number (Above 4 p11 1 0) 4 1 × Number (Above 4 p11 3 1) 4 1
+unfolding mark ℕ-discrete decLt decLe both negated implies as-well all-below under? equal? head-of? head? above?
+    number-there to-go
+above-worked = (to-go 3 p8 1 0 .1, to-go 4 p11 1 0 .1, to-go 4 p11 3 1 .1)
