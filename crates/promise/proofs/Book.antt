@@ -4,7 +4,7 @@
 use mathlib.Core.Path.{_≡_, refl, sym, _∙_, ap, subst}
 use mathlib.Core.Bool.{false≢true}
 use mathlib.Core.List.{List, [], _∷_, _++_}
-use Prim.Native.Nat.{ℕ, zero, suc, _+_, _*_, _/_, _≤_}
+use Prim.Native.Nat.{ℕ, zero, suc, _+_, _*_, _/_, _≤_, _<_}
 use native.Mathlib.Nat.{suc-mul}
 use native.Mathlib.Omega.{arith}
 use lib.ListN.{length, getD, drop, length-drop}
@@ -18,13 +18,13 @@ use Rattle.promise.specs.Book.{fieldSays, stageBehind, itemsFrom, itemsO
 use Rattle.promise.proofs.Tags.{FactsTag, RowIs, row-is, Right, field-right, facts-width, facts-fit}
 use Rattle.promise.proofs.Items.{facts-step}
 
--- q is the tag byte of a field, at a stage of reading: the first of the book, or the one behind a field that is not
--- refused
+-- q is the index of the tag byte of a field, at a stage of reading: the first byte of the book, or the one behind a
+-- field that is not refused
 pub data FieldAt (book : List ℕ) : ℕ → Stage → Type 0 where
-  start : FieldAt book 0 Start
+  start : 0 < length book → FieldAt book 0 Start
   behind :
       {q : ℕ} {stage : Stage} → FieldAt book q stage → First (fieldRefusals stage (drop q book)) 0
-      → FieldAt book (q + sizeOf (drop q book)) Begun
+      → q + sizeOf (drop q book) < length book → FieldAt book (q + sizeOf (drop q book)) Begun
 
 -- a field that is not refused ends within the book
 pub ends-within :
@@ -32,12 +32,12 @@ pub ends-within :
     → q + sizeOf (drop q book) ≤ length book
 ends-within book q stage right = omega (arith, field-right stage (drop q book) right .1, length-drop q book)
 
-pub field-within : {book : List ℕ} {q : ℕ} {stage : Stage} → FieldAt book q stage → q ≤ length book
-field-within FieldAt.start = omega arith
-field-within {book} (FieldAt.behind {q} {stage} at right) = ends-within book q stage right
+pub field-within : {book : List ℕ} {q : ℕ} {stage : Stage} → FieldAt book q stage → q < length book
+field-within (FieldAt.start some) = some
+field-within (FieldAt.behind at right more) = more
 
--- the fact at place p: its two classes are the bytes there, and it stands in a field that is not refused, whose tag
--- says how it is taken and what its verdict is
+-- the fact whose first byte stands at place p: its two classes are the bytes there, and whole facts lie between it and
+-- the head of its field, which is not refused, and whose tag says how it is taken and what its verdict is
 pub record SaidAt (book : List ℕ) (p : ℕ) (kind : Kind) (a b v : ℕ) : Type 0 where
   pub lower : a ≡ getD book p 0
   pub upper : b ≡ getD book (p + 1) 0
@@ -47,7 +47,8 @@ pub record SaidAt (book : List ℕ) (p : ℕ) (kind : Kind) (a b v : ℕ) : Type
   pub width : ℕ
   pub verdict : List ℕ → ℕ
   pub tag : FactsTag (getD (drop field book) 0 0) width kind verdict
-  pub from : field + 3 ≤ p
+  pub before : ℕ
+  pub from : p ≡ field + 3 + before * width
   pub to : p + width ≤ field + sizeOf (drop field book)
   pub says : v ≡ verdict (drop p book)
 
@@ -134,11 +135,11 @@ module _
     (items : List Item) (after : Later book items)
   where
     facts-later :
-        (count p : ℕ) → q + 3 ≤ p → p + count * width ≤ q + sizeOf (drop q book)
+        (count before p : ℕ) → p ≡ q + 3 + before * width → p + count * width ≤ q + sizeOf (drop q book)
         → Later book (factsFrom count width kind verdict p (drop p book) ++ items)
     unfolding factsFrom
-    facts-later zero p from to = after
-    facts-later (suc count) p from to =
+    facts-later zero before p from to = after
+    facts-later (suc count) before p from to =
         subst (λ (l : List Item). Later book (l ++ items)) (sym (facts-step count width kind verdict p book)) (
           record {
             lower = refl;
@@ -149,11 +150,13 @@ module _
             width = width;
             verdict = verdict;
             tag = tag;
+            before = before;
             from = from;
             to = omega (arith, suc-mul count width);
             says = refl;
           },
-          facts-later count (p + width) (omega arith) (omega (arith, suc-mul count width)),
+          facts-later count (suc before) (p + width) (omega (arith, suc-mul before width))
+              (omega (arith, suc-mul count width)),
         )
 
 not-start : {stage : Stage} → stage ≡ Begun → stage ≡ Start → ⊥
@@ -179,7 +182,7 @@ field-later book at bytes items e is-field right after =
     go l (Right.facts {width} {kind} {verdict} _ t _) =
         subst (λ (k : List ℕ). Later book (factsFrom (lengthOf f / width) width kind verdict (at + 3) k ++ items))
         (sym (drop-drop 3 at book))
-        (facts-later book at is-field here t items after (lengthOf f / width) (at + 3) (omega arith)
+        (facts-later book at is-field here t items after (lengthOf f / width) 0 (at + 3) (omega arith)
         (omega (arith, facts-fit (lengthOf f) width)))
 
 -- what stands behind a field is at the stage Begun
@@ -193,20 +196,24 @@ stage-behind stage bytes right = go (field-right stage bytes right .0)
 
 field-behind :
     (book : List ℕ) (at : ℕ) (stage : Stage) (bytes : List ℕ) → bytes ≡ drop at book → FieldAt book at stage
-    → First (fieldRefusals stage bytes) 0 → FieldAt book (at + sizeOf bytes) Begun
-field-behind book at stage bytes e is-field right =
-    subst (λ (f : List ℕ). First (fieldRefusals stage f) 0 → FieldAt book (at + sizeOf f) Begun) (sym e)
-    (FieldAt.behind is-field) right
+    → First (fieldRefusals stage bytes) 0 → at + sizeOf bytes < length book → FieldAt book (at + sizeOf bytes) Begun
+field-behind book at stage bytes e is-field =
+    subst
+    (λ (f : List ℕ).
+    First (fieldRefusals stage f) 0 → at + sizeOf f < length book → FieldAt book (at + sizeOf f) Begun)
+    (sym e)
+    (FieldAt.behind is-field)
 
 -- the fields behind the first
 items-later :
-    (fuel at : ℕ) (book bytes : List ℕ) → bytes ≡ drop at book → FieldAt book at Begun
+    (fuel at : ℕ) (book bytes : List ℕ) → bytes ≡ drop at book → (at < length book → FieldAt book at Begun)
     → Later book (itemsFrom fuel Begun at bytes)
 unfolding itemsFrom
-items-later zero at book bytes e is-field = tt
-items-later (suc fuel) at book [] e is-field = tt
-items-later (suc fuel) at book (tag ∷ bytes) e is-field =
-    let field = tag ∷ bytes in (
+items-later zero at book bytes e here = tt
+items-later (suc fuel) at book [] e here = tt
+items-later (suc fuel) at book (tag ∷ bytes) e here =
+    let field = tag ∷ bytes in
+    let is-field = here (omega (arith, length-drop at book, ap (λ (l : List ℕ). length l) e)) in (
       refl,
       e,
       is-field,
@@ -250,5 +257,5 @@ items-whole (tag ∷ bytes)
           (omega arith)
           (items-rise (length bytes) Begun (0 + sizeOf book) (drop (sizeOf book) book)),
       items-later (length bytes) (0 + sizeOf book) book (drop (sizeOf book) book) (drop-drop (sizeOf book) 0 book)
-          (FieldAt.behind FieldAt.start right),
+          (FieldAt.behind (FieldAt.start (omega arith)) right),
     )

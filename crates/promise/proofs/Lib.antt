@@ -18,6 +18,7 @@ pub mod Tags
 pub mod Items
 pub mod Book
 pub mod Read
+pub mod Places
 pub mod Write
 pub mod Lengths
 pub mod BookSays
