@@ -1,5 +1,5 @@
 -- Refused books in the words of document 01: where each number stands, that 3 and 4 never come up, and what is left
--- where no class count was accepted.
+-- where no class count was accepted; and that reading writes the n*n marks alone.
 -- Assumes nothing.
 use mathlib.Core.Path.{_≡_, refl}
 use mathlib.Core.Logic.{_≢_, _⊎_, inl, inr, ⊎-elim}
@@ -7,6 +7,8 @@ use mathlib.Core.List.{List, [], _∷_}
 use Prim.Native.Nat.{ℕ, _≤_, _<_}
 use native.Mathlib.Omega.{arith}
 use lib.ListN.{length, getD, drop}
+use Rattle.order.specs.Tables.{SameRest}
+use Rattle.order.proofs.Bytes.{rest-refl}
 use Rattle.promise.specs.Refusals.{First}
 use Rattle.promise.proofs.Refusals.{first-unique}
 use Rattle.promise.specs.declared.Stage.{Stage}
@@ -17,7 +19,7 @@ use Rattle.promise.specs.Calls.{noSession}
 use Rattle.promise.specs.Tell.{Kind, freshRefusals}
 use Rattle.promise.specs.Book.{fieldRefusals, BookRead}
 use Rattle.promise.proofs.Fresh.{fresh-numbers}
-use Rattle.promise.proofs.Runs.{fresh-run-classes}
+use Rattle.promise.proofs.Runs.{fresh-run-classes, fresh-run-rest}
 use Rattle.promise.proofs.Tags.{field-numbers, facts-width}
 use Rattle.promise.proofs.Book.{FieldAt, field-within, ends-within, SaidAt}
 use Rattle.promise.proofs.Read.{factRefusals, Stopped, NoCount, ReadAs, read-run}
@@ -84,7 +86,7 @@ read-place {book} h ne = go (read-places h ne)
 -- "Numbers 3 and 4 can't come up in reading."
 pub read-numbers : {book t : List ℕ} {r : Reply} {t′ : List ℕ} → BookRead book t r t′
     → (r .number ≢ 3) × (r .number ≢ 4)
-read-numbers {book} h = (λ e. go (read-places h (λ z. omega arith)) .0 e, λ e. go (read-places h (λ z. omega arith)) .1 e)
+read-numbers {book} {r = r} h = (λ e. at 3 e (omega arith) .0 e, λ e. at 4 e (omega arith) .1 e)
   where
     go : {k p : ℕ} → PlaceOf book k p → (k ≢ 3) × (k ≢ 4)
     go (PlaceOf.tag-byte (inl k) q) = omega arith
@@ -94,6 +96,18 @@ read-numbers {book} h = (λ e. go (read-places h (λ z. omega arith)) .0 e, λ e
     go (PlaceOf.first-byte (inr (inl k)) q) = omega arith
     go (PlaceOf.first-byte (inr (inr k)) q) = omega arith
     go (PlaceOf.empty e k p) = omega arith
+
+    at : (k : ℕ) → r .number ≡ k → 0 < k → (r .number ≢ 3) × (r .number ≢ 4)
+    at k e some = go (read-places h (λ z. omega arith))
+
+-- "Bytes from n*n on are never … written", and the length stays: no byte is written where no class count was accepted
+pub read-rest : {book t : List ℕ} {r : Reply} {t′ : List ℕ} → BookRead book t r t′ → SameRest (r .session .classes) t t′
+read-rest {book} {t} {r} {t′} h = go (read-run h)
+  where
+    go : ReadAs book t r t′ → SameRest (r .session .classes) t t′
+    go (ReadAs.not-begun _ p s u _) = rw u (rest-refl t)
+    go (ReadAs.whole _ _ _ run) = rw (fresh-run-classes run) (fresh-run-rest run)
+    go (ReadAs.cut _ _ run _) = rw (fresh-run-classes run) (fresh-run-rest run)
 
 -- a class count is accepted: the first field is right, and fresh does not refuse the count
 abbrev pub CountAccepted : List ℕ → List ℕ → Type 0
