@@ -1,9 +1,9 @@
 -- What a book comes to, tied to its bytes: each fact is what the bytes at its place say, in a field that is not
--- refused; the class count comes first and once; places rise; every field stands behind fields that are not refused.
+-- refused; the class count comes first and once; ranks rise; every field stands behind fields that are not refused.
 -- Assumes nothing.
 use mathlib.Core.Path.{_≡_, refl, sym, _∙_, ap, subst}
 use mathlib.Core.Bool.{false≢true}
-use mathlib.Core.List.{List, [], _∷_, _++_}
+use mathlib.Core.List.{List, [], _∷_, _++_, List·Memᴰ, List·Memᴰ·head, List·Memᴰ·tail, List·Memᴰ·not-nil}
 use Prim.Native.Nat.{ℕ, zero, suc, _+_, _*_, _/_, _≤_, _<_}
 use native.Mathlib.Nat.{suc-mul}
 use native.Mathlib.Omega.{arith}
@@ -52,12 +52,16 @@ pub record SaidAt (book : List ℕ) (p : ℕ) (kind : Kind) (a b v : ℕ) : Type
   pub to : p + width ≤ field + sizeOf (drop field book)
   pub says : v ≡ verdict (drop p book)
 
--- places rise, from at on; a class count stands where its field does
-abbrev pub PlacesRise : ℕ → List Item → Type 0
-PlacesRise at [] = Unit {0}
-PlacesRise at (Item.head p stage bytes ∷ items) = (at ≤ p) × PlacesRise p items
-PlacesRise at (Item.begin p n ∷ items) = (at ≤ p) × PlacesRise (suc p) items
-PlacesRise at (Item.said p kind a b v ∷ items) = (at ≤ p) × PlacesRise (suc p) items
+-- where an item stands among others: by its place, and a class count behind the field that says it
+abbrev pub rank : Item → ℕ
+rank (Item.head p stage bytes) = 2 * p
+rank (Item.begin p n) = 1 + 2 * p
+rank (Item.said p kind a b v) = 2 * p
+
+-- ranks rise, from at on
+abbrev pub Rises : ℕ → List Item → Type 0
+Rises at [] = Unit {0}
+Rises at (item ∷ items) = (at ≤ rank item) × Rises (suc (rank item)) items
 
 -- fields behind the first, and their facts; of a field that is refused nothing more is said
 abbrev pub Later : List ℕ → List Item → Type 0
@@ -72,7 +76,7 @@ Later book (Item.said p kind a b v ∷ items) = SaidAt book p kind a b v × Late
 abbrev pub CountFirst : List ℕ → List Item → Type 0
 CountFirst book [] = ⊥
 CountFirst book (Item.head p stage bytes ∷ items) = ⊥
-CountFirst book (Item.begin p n ∷ items) = (p ≡ 0) × (n ≡ getD book 3 0) × PlacesRise 1 items × Later book items
+CountFirst book (Item.begin p n ∷ items) = (p ≡ 0) × (n ≡ getD book 3 0) × Rises 2 items × Later book items
 CountFirst book (Item.said p kind a b v ∷ items) = ⊥
 
 -- the first field, and where it is not refused, what it says and what stands behind it
@@ -83,40 +87,35 @@ Whole book (Item.head p stage bytes ∷ items) =
 Whole book (Item.begin p n ∷ items) = ⊥
 Whole book (Item.said p kind a b v ∷ items) = ⊥
 
-rise-from : (at e : ℕ) (items : List Item) → at ≤ e → PlacesRise e items → PlacesRise at items
+rise-from : (at e : ℕ) (items : List Item) → at ≤ e → Rises e items → Rises at items
 rise-from at e [] h l = tt
-rise-from at e (Item.head p stage bytes ∷ items) h l = (omega (arith, l .0), l .1)
-rise-from at e (Item.begin p n ∷ items) h l = (omega (arith, l .0), l .1)
-rise-from at e (Item.said p kind a b v ∷ items) h l = (omega (arith, l .0), l .1)
+rise-from at e (item ∷ items) h l = (omega (arith, l .0), l .1)
 
 facts-rise :
-    (count width : ℕ) (kind : Kind) (verdict : List ℕ → ℕ) (p e : ℕ) (bytes : List ℕ) (items : List Item) → 2 ≤ width
-    → p + count * width ≤ e → PlacesRise e items → PlacesRise p (factsFrom count width kind verdict p bytes ++ items)
+    (count width : ℕ) (kind : Kind) (verdict : List ℕ → ℕ) (at p e : ℕ) (bytes : List ℕ) (items : List Item)
+    → 2 ≤ width → at ≤ 2 * p → p + count * width ≤ e → Rises (2 * e) items
+    → Rises at (factsFrom count width kind verdict p bytes ++ items)
 unfolding factsFrom
-facts-rise zero width kind verdict p e bytes items wide h l = rise-from p e items (omega arith) l
-facts-rise (suc count) width kind verdict p e bytes items wide h l = (
-  omega arith,
-  rise-from (suc p) (p + width) (factsFrom count width kind verdict (p + width) (drop width bytes) ++ items)
-      (omega arith)
-      (facts-rise count width kind verdict (p + width) e (drop width bytes) items wide
-      (omega (arith, suc-mul count width)) l),
+facts-rise zero width kind verdict at p e bytes items wide from h l = rise-from at (2 * e) items (omega arith) l
+facts-rise (suc count) width kind verdict at p e bytes items wide from h l = (
+  from,
+  facts-rise count width kind verdict (suc (2 * p)) (p + width) e (drop width bytes) items wide (omega arith)
+      (omega (arith, suc-mul count width)) l,
 )
 
 says-rise :
     {tag : ℕ} {l : Lookup} → RowIs tag l → (at : ℕ) (bytes : List ℕ) (items : List Item)
-    → PlacesRise (at + sizeOf bytes) items → PlacesRise at (fieldSays l at bytes ++ items)
-says-rise (RowIs.unknown u) at bytes items h = rise-from at (at + sizeOf bytes) items (omega arith) h
+    → Rises (2 * (at + sizeOf bytes)) items → Rises (suc (2 * at)) (fieldSays l at bytes ++ items)
+says-rise (RowIs.unknown u) at bytes items h =
+    rise-from (suc (2 * at)) (2 * (at + sizeOf bytes)) items (omega arith) h
 says-rise (RowIs.count e) at bytes items h =
-    (omega arith, rise-from (suc at) (at + sizeOf bytes) items (omega arith) h)
+    (omega arith, rise-from (suc (1 + 2 * at)) (2 * (at + sizeOf bytes)) items (omega arith) h)
 says-rise (RowIs.facts {width} {kind} {verdict} t) at bytes items h =
-    rise-from at (at + 3) (factsFrom (lengthOf bytes / width) width kind verdict (at + 3) (drop 3 bytes) ++ items)
-    (omega arith)
-    (facts-rise (lengthOf bytes / width) width kind verdict (at + 3) (at + sizeOf bytes) (drop 3 bytes) items
-    (facts-width t)
-    (omega (arith, facts-fit (lengthOf bytes) width)) h)
+    facts-rise (lengthOf bytes / width) width kind verdict (suc (2 * at)) (at + 3) (at + sizeOf bytes) (drop 3 bytes)
+    items (facts-width t) (omega arith) (omega (arith, facts-fit (lengthOf bytes) width)) h
 
--- places rise, whatever the bytes are
-pub items-rise : (fuel : ℕ) (stage : Stage) (at : ℕ) (bytes : List ℕ) → PlacesRise at (itemsFrom fuel stage at bytes)
+-- ranks rise, whatever the bytes are
+pub items-rise : (fuel : ℕ) (stage : Stage) (at : ℕ) (bytes : List ℕ) → Rises (2 * at) (itemsFrom fuel stage at bytes)
 unfolding itemsFrom
 items-rise zero stage at bytes = tt
 items-rise (suc fuel) stage at [] = tt
@@ -127,6 +126,30 @@ items-rise (suc fuel) stage at (tag ∷ bytes) =
           (itemsFrom fuel (stageBehind (rowOf tag) stage) (at + sizeOf field) (drop (sizeOf field) field))
           (items-rise fuel (stageBehind (rowOf tag) stage) (at + sizeOf field) (drop (sizeOf field) field)),
     )
+
+pub book-rises : (book : List ℕ) → Rises 0 (itemsOf book)
+book-rises [] = (omega arith, tt)
+book-rises (tag ∷ bytes) = items-rise (suc (length bytes)) Start 0 (tag ∷ bytes)
+
+-- where ranks rise, no two items have the same
+
+rank-from : (at : ℕ) (items : List Item) → Rises at items → (item : Item) → List·Memᴰ item items → at ≤ rank item
+rank-from at [] l item i = absurd (List·Memᴰ·not-nil i)
+rank-from at (first ∷ items) l item (List·Memᴰ·head e) = rw e (l .0)
+rank-from at (first ∷ items) l item (List·Memᴰ·tail i) =
+    omega (arith, l .0, rank-from (suc (rank first)) items (l .1) item i)
+
+pub rank-once :
+    (at : ℕ) (items : List Item) → Rises at items → (x y : Item) → List·Memᴰ x items → List·Memᴰ y items
+    → rank x ≡ rank y → x ≡ y
+rank-once at [] l x y i j same = absurd (List·Memᴰ·not-nil i)
+rank-once at (first ∷ items) l x y (List·Memᴰ·head e) (List·Memᴰ·head e₂) same = e ∙ sym e₂
+rank-once at (first ∷ items) l x y (List·Memᴰ·head e) (List·Memᴰ·tail j) same =
+    absurd (omega (arith, rank-from (suc (rank first)) items (l .1) y j, ap rank e, same))
+rank-once at (first ∷ items) l x y (List·Memᴰ·tail i) (List·Memᴰ·head e) same =
+    absurd (omega (arith, rank-from (suc (rank first)) items (l .1) x i, ap rank e, same))
+rank-once at (first ∷ items) l x y (List·Memᴰ·tail i) (List·Memᴰ·tail j) same =
+    rank-once (suc (rank first)) items (l .1) x y i j same
 
 -- the facts of a field that is not refused, and what stands behind it
 module _
@@ -253,7 +276,8 @@ items-whole (tag ∷ bytes)
     says l (Right.count _ _ _) e right = (
       refl,
       refl,
-      rise-from 1 (0 + sizeOf book) (itemsFrom (length bytes) Begun (0 + sizeOf book) (drop (sizeOf book) book))
+      rise-from 2 (2 * (0 + sizeOf book))
+          (itemsFrom (length bytes) Begun (0 + sizeOf book) (drop (sizeOf book) book))
           (omega arith)
           (items-rise (length bytes) Begun (0 + sizeOf book) (drop (sizeOf book) book)),
       items-later (length bytes) (0 + sizeOf book) book (drop (sizeOf book) book) (drop-drop (sizeOf book) 0 book)

@@ -22,6 +22,7 @@ pub mod Places
 pub mod Write
 pub mod Lengths
 pub mod BookSays
+pub mod BookOrders
 pub mod ReadBack
 pub mod Mantel
 pub mod Triangles

@@ -17,7 +17,7 @@ use Rattle.promise.specs.declared.Session.{Session}
 use Rattle.promise.specs.declared.Reply.{Reply}
 use Rattle.promise.specs.Calls.{noSession}
 use Rattle.promise.specs.Tell.{Kind, freshRefusals}
-use Rattle.promise.specs.Book.{fieldRefusals, BookRead}
+use Rattle.promise.specs.Book.{fieldRefusals, itemsOf, BookRead}
 use Rattle.promise.proofs.Fresh.{fresh-numbers}
 use Rattle.promise.proofs.Runs.{fresh-run-classes, fresh-run-rest}
 use Rattle.promise.proofs.Tags.{field-numbers, facts-width}
@@ -60,10 +60,10 @@ pub read-places :
     → PlaceOf book (r .number) (r .place)
 read-places {book} {t} {r} {t′} h ne = go (read-run h)
   where
-    stopped : Stopped book (r .number) (r .place) (r .session) t′ → PlaceOf book (r .number) (r .place)
-    stopped (Stopped.at-field q first) =
+    stopped : Stopped book (itemsOf book) (r .number) (r .place) (r .session) t′ → PlaceOf book (r .number) (r .place)
+    stopped (Stopped.at-field _ q first) =
         PlaceOf.tag-byte (inr (inr (field-numbers Begun (drop (r .place) book) (r .number) first ne))) q
-    stopped (Stopped.at-fact {a = a} {b = b} {v = v} q first) =
+    stopped (Stopped.at-fact {a = a} {b = b} {v = v} _ q first) =
         PlaceOf.first-byte (fact-numbers (r .session) t′ a b v (r .number) first ne) q
 
     go : ReadAs book t r t′ → PlaceOf book (r .number) (r .place)
@@ -113,18 +113,19 @@ read-rest {book} {t} {r} {t′} h = go (read-run h)
 abbrev pub CountAccepted : List ℕ → List ℕ → Type 0
 CountAccepted book t = First (fieldRefusals Start book) 0 × First (freshRefusals (getD book 3 0) t) 0
 
+pub no-count : {book t : List ℕ} {k : ℕ} → CountAccepted book t → NoCount book t k → k ≡ 0
+no-count {book} {t} {k} (right, begun) (NoCount.at-field f) = first-unique (fieldRefusals Start book) k 0 f right
+no-count {book} {t} {k} (right, begun) (NoCount.at-count _ f) =
+    first-unique (freshRefusals (getD book 3 0) t) k 0 f begun
+
 -- then it is that of the session, whatever else is refused
 pub read-count :
     {book t : List ℕ} {r : Reply} {t′ : List ℕ} → BookRead book t r t′ → CountAccepted book t
     → r .session .classes ≡ getD book 3 0
-read-count {book} {t} {r} {t′} h (right, begun) = go (read-run h)
+read-count {book} {t} {r} {t′} h begun = go (read-run h)
   where
-    counted : {k : ℕ} → k ≢ 0 → NoCount book t k → ⊥
-    counted {k} ne (NoCount.at-field f) = ne (first-unique (fieldRefusals Start book) k 0 f right)
-    counted {k} ne (NoCount.at-count _ f) = ne (first-unique (freshRefusals (getD book 3 0) t) k 0 f begun)
-
     go : ReadAs book t r t′ → r .session .classes ≡ getD book 3 0
-    go (ReadAs.not-begun ne p s u why) = absurd (counted ne why)
+    go (ReadAs.not-begun ne p s u why) = absurd (ne (no-count begun why))
     go (ReadAs.whole _ _ _ run) = fresh-run-classes run
     go (ReadAs.cut _ _ run _) = fresh-run-classes run
 
