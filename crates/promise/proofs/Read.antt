@@ -179,8 +179,8 @@ itemsBefore place (item ∷ items) = ifBefore (decLt (placeOf item) place) item 
 abbrev pub factRefusals : Session → List ℕ → ℕ → ℕ → ℕ → List Condition
 factRefusals s t a b v = badVerdict v ∷ tellRefusals s t (factOf a b v)
 
--- Where a book is refused behind its class count, and why: at one of the items, which is a field at its tag byte, by its
--- bytes, or a fact at its first byte, by that fact and the session s and the table t that are left, those before it.
+-- Where a book is refused behind its class count, and why: at one of these items, a field at its tag byte, by its
+-- bytes; or a fact at its first byte, by that fact and the session s and the table t that are left, those before it.
 pub data Stopped (book : List ℕ) (items : List Item) (number place : ℕ) (s : Session) (t : List ℕ) : Type 0 where
   at-field :
       List·Memᴰ (Item.head place Begun (drop place book)) items → FieldAt book place Begun
@@ -324,11 +324,12 @@ module _ (book : List ℕ) where
   follows-run at (Item.head p stage bytes ∷ items) s t rise l st (k, first, inl (ne, e)) = (
     λ _. rw (e .0) (rise .0),
     stops-here book k p (Item.head p stage bytes ∷ items) (omega arith, rise .1) ne
-        (Stopped.at-field (rw (← l .0, ← l .1) (List·Memᴰ·head refl)) (l .2) (rw (← l .0, ← l .1) first)) e,
+        (Stopped.at-field (rw (← l .0, ← l .1) (List·Memᴰ·head refl)) (l .2)
+        (rw (← l .0, ← l .1) first)) e,
   )
   follows-run at (Item.head p stage bytes ∷ items) s t rise l st (k, first, inr (z, later)) =
       field-run at p stage bytes items s t (rise .0)
-      (follows-run (suc (2 * p)) items s t (rise .1) (l .3 (subst (First (fieldRefusals stage bytes)) z first)) st later)
+      (follows-run (suc (2 * p)) items s t (rise .1) (l .3 (rw z at first)) st later)
   follows-run at (Item.said p kind a b v ∷ items) s t rise l st (k, first, inl (ne, e)) = (
     λ _. rw (e .0) (rise .0),
     stops-here book k p (Item.said p kind a b v ∷ items) (omega arith, rise .1) ne
@@ -344,7 +345,8 @@ module _ (book : List ℕ) where
       )
   follows-run at (Item.said p kind a b v ∷ items) s t rise l st (k, first, inr (z, (q, u, told, inr (y, later)))) =
       fact-run at p kind a b v items s t (rise .0) told y
-      (follows-run (suc (2 * p)) items (q .session) u (rise .1) (l .1) (leaves-keeps (tell-leaves kind told y) st) later)
+      (follows-run (suc (2 * p)) items (q .session) u (rise .1) (l .1)
+      (leaves-keeps (tell-leaves kind told y) st) later)
 
 -- Why no class count was accepted: the first field is refused, or it is not and fresh refuses the class count.
 pub data NoCount (book t : List ℕ) (number : ℕ) : Type 0 where
