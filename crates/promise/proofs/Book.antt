@@ -115,7 +115,7 @@ says-rise (RowIs.facts {width} {kind} {verdict} t) at bytes items h =
     items (facts-width t) (omega arith) (omega (arith, facts-fit (lengthOf bytes) width)) h
 
 -- ranks rise, whatever the bytes are
-pub items-rise : (fuel : ℕ) (stage : Stage) (at : ℕ) (bytes : List ℕ) → Rises (2 * at) (itemsFrom fuel stage at bytes)
+items-rise : (fuel : ℕ) (stage : Stage) (at : ℕ) (bytes : List ℕ) → Rises (2 * at) (itemsFrom fuel stage at bytes)
 unfolding itemsFrom
 items-rise zero stage at bytes = tt
 items-rise (suc fuel) stage at [] = tt

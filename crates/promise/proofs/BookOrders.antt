@@ -120,6 +120,7 @@ before-here p (item ∷ items) x i l = go (decLt (placeOf item) p) i (λ j. befo
     go (no z) (List·Memᴰ·head e) rest = absurd (z (rw e at l))
     go (no z) (List·Memᴰ·tail j) rest = rest j
 
+-- an item says a fact
 abbrev Says : Item → Fact → Type 0
 Says (Item.head p stage bytes) f = ⊥
 Says (Item.begin p n) f = ⊥
@@ -156,17 +157,13 @@ past-taken (suc k) place p items (inr h) x i l = before-here place items x i (om
 abbrev pub SaidBefore : List ℕ → ℕ → Facts
 SaidBefore book place = Listed (factsSaid (itemsBefore place (itemsOf book)))
 
--- the same fact in two items, and that a field says none
+-- how the fact of an item is judged
 abbrev Judged : Session → List ℕ → ℕ → Item → Type 0
 Judged s t k (Item.head p stage bytes) = ⊥
 Judged s t k (Item.begin p n) = ⊥
 Judged s t k (Item.said p kind a b v) = First (factRefusals s t a b v) k
 
-impossible-more : {n : ℕ} {S S′ : Facts} → S ⊆ S′ → Impossible n S → Impossible n S′
-impossible-more i x R o a =
-    possible-not (possible-subset i (record { relation = R; is-order = o; agrees = a })) x
-
--- a fact with a right verdict on classes below the count, where the reading left session and table before it
+-- a fact with a right verdict on classes below the count is refused with 6 alone, and then no order agrees
 module _
     {book t : List ℕ} {r : Reply} {t′ : List ℕ} (h : BookRead book t r t′) {a b v : ℕ} (right : v ≤ 1)
     (below : Below (r .session .classes) (factOf a b v)) where
