@@ -17,10 +17,12 @@ pub mod Tags
 pub mod Items
 pub mod Book
 pub mod Read
+pub mod Places
 pub mod Write
 pub mod Crossing
 pub mod Lengths
 pub mod BookSays
+pub mod BookOrders
 pub mod ReadBack
 pub mod Mantel
 pub mod Triangles
