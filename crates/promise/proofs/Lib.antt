@@ -31,3 +31,4 @@ pub mod Worked
 pub mod Apart
 pub mod WrongAnswers
 pub mod MarksAlone
+pub mod Starts

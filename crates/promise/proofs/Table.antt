@@ -186,7 +186,8 @@ pub data Mark : Type 0 where
   next-not-sound-first next-overcounted next-all-tested open-no-class open-short-table open-not-sound : Mark
   open-overcounted tell-129-classes tell-overcounted-first tell-lower-beyond tell-upper-beyond : Mark
   hierarchy-short-steps hierarchy-short-heads hierarchy-open-first hierarchy-open ladder-short ladder-fits : Mark
-  ladder-equal ladder-beyond-first ladder-open-first ladder-open write-short write-one-class write-open : Mark
+  ladder-equal ladder-beyond-first ladder-open-first ladder-open-short ladder-open : Mark
+  write-short write-one-class write-open : Mark
   example-read example-cut-read example-cut-open example-cut-asks : Mark
   book-empty book-cut-head book-cut-head-first book-unknown-tag book-tag-zero book-misplaced : Mark
   book-misplaced-first book-two-counts book-length-first book-no-count book-cut-contents book-no-class : Mark
@@ -286,6 +287,7 @@ row Mark.ladder-fits = Input.ladder four p11 0 2 (nines 2) gives (Count 2, 0 ∷
 row Mark.ladder-equal = Input.ladder (three 0) p8 2 1 (nines 2) gives (Count 1, 1 ∷ 9 ∷ [])
 row Mark.ladder-beyond-first = Input.ladder (three 0) p7 3 0 [] gives (Refused 5 0, [])
 row Mark.ladder-open-first = Input.ladder (three 0) p7 2 0 [] gives (Refused 7 0, [])
+row Mark.ladder-open-short = Input.ladder (three 0) p7 0 1 [] gives (Refused 7 0, [])
 row Mark.ladder-open = Input.ladder (started 2) oneOpen 0 0 (nines 2) gives (Refused 7 0, nines 2)
 row Mark.write-short = Input.write (three 0) p8 (nines 21) gives (Refused 8 0, nines 21)
 row Mark.write-one-class =

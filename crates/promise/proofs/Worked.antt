@@ -143,6 +143,7 @@ computed Mark.ladder-fits = refl
 computed Mark.ladder-equal = refl
 computed Mark.ladder-beyond-first = refl
 computed Mark.ladder-open-first = refl
+computed Mark.ladder-open-short = refl
 computed Mark.ladder-open = refl
 computed Mark.write-short = refl
 computed Mark.write-one-class = refl
