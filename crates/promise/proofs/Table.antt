@@ -185,8 +185,9 @@ pub data Mark : Type 0 where
   fresh-no-class fresh-129-classes fresh-short-table next-no-class next-short-table next-not-sound next-no-mark : Mark
   next-not-sound-first next-overcounted next-all-tested open-no-class open-short-table open-not-sound : Mark
   open-overcounted tell-129-classes tell-overcounted-first tell-lower-beyond tell-upper-beyond : Mark
+  tell-contradicts-beyond : Mark
   hierarchy-short-steps hierarchy-short-heads hierarchy-open-first hierarchy-open ladder-short ladder-fits : Mark
-  ladder-equal ladder-beyond-first ladder-open-first ladder-open-short ladder-open : Mark
+  ladder-equal ladder-beyond-first ladder-upper-beyond ladder-open-first ladder-open-short ladder-open : Mark
   write-short write-one-class write-open : Mark
   example-read example-cut-read example-cut-open example-cut-asks : Mark
   book-empty book-cut-head book-cut-head-first book-unknown-tag book-tag-zero book-misplaced : Mark
@@ -275,7 +276,8 @@ row Mark.tell-129-classes =
     Input.tell Kind.told (sessionOf 129 5) [] (under 0 0) gives (replied 1 0 (sessionOf 129 5), [])
 row Mark.tell-overcounted-first = Input.tell Kind.told (three 1) p2 (under 0 3) gives (replied 4 0 (three 1), p2)
 row Mark.tell-lower-beyond = Input.tell Kind.told (three 0) p2 (under 3 0) gives (replied 5 0 (three 0), p2)
-row Mark.tell-upper-beyond = Input.tell Kind.told (three 0) p4 (under 0 5) gives (replied 5 0 (three 0), p4)
+row Mark.tell-upper-beyond = Input.tell Kind.told (three 0) p2 (under 0 3) gives (replied 5 0 (three 0), p2)
+row Mark.tell-contradicts-beyond = Input.tell Kind.told (three 0) p4 (under 0 5) gives (replied 5 0 (three 0), p4)
 -- buffers that just fit, and one byte less; the order of refusals
 row Mark.hierarchy-short-steps = Input.hierarchy four p11 (nines 4) (nines 7) gives (Refused 8 0, (nines 4, nines 7))
 row Mark.hierarchy-short-heads = Input.hierarchy four p11 (nines 3) (nines 8) gives (Refused 8 0, (nines 3, nines 8))
@@ -286,6 +288,7 @@ row Mark.ladder-short = Input.ladder four p11 0 3 (nines 2) gives (Refused 8 0, 
 row Mark.ladder-fits = Input.ladder four p11 0 2 (nines 2) gives (Count 2, 0 ∷ 2 ∷ [])
 row Mark.ladder-equal = Input.ladder (three 0) p8 2 1 (nines 2) gives (Count 1, 1 ∷ 9 ∷ [])
 row Mark.ladder-beyond-first = Input.ladder (three 0) p7 3 0 [] gives (Refused 5 0, [])
+row Mark.ladder-upper-beyond = Input.ladder (three 0) p8 0 3 (nines 3) gives (Refused 5 0, nines 3)
 row Mark.ladder-open-first = Input.ladder (three 0) p7 2 0 [] gives (Refused 7 0, [])
 row Mark.ladder-open-short = Input.ladder (three 0) p7 0 1 [] gives (Refused 7 0, [])
 row Mark.ladder-open = Input.ladder (started 2) oneOpen 0 0 (nines 2) gives (Refused 7 0, nines 2)
