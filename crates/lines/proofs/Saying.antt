@@ -1,7 +1,7 @@
 -- What next and hierarchy give where refusals 1 to 4 are not due, and what is then said of the table.
 -- Assumes nothing.
 use mathlib.Core.Path.{_≡_, refl, sym, _∙_, ap}
-use mathlib.Core.Logic.{_≢_, inl, inr}
+use mathlib.Core.Logic.{_≢_}
 use mathlib.Core.List.{List, []}
 use Prim.Native.Nat.{ℕ, _+_, _≤_, _<_}
 use native.Mathlib.Omega.{arith}
@@ -18,10 +18,10 @@ use Rattle.promise.specs.declared.Counted.{Counted}
 use Rattle.promise.specs.declared.Counted.the-variants.{Count}
 use Rattle.promise.specs.Calls.{openPairs, over, Owed}
 use Rattle.promise.specs.Next.{FirstOpen, next}
-use Rattle.promise.specs.Hierarchy.{HeadsOf, StepsOf, hierarchyRefusals, hierarchy}
+use Rattle.promise.specs.Hierarchy.{HeadsOf, StepsOf, hierarchy}
 use Rattle.promise.proofs.Standing.{Stands, standing-passed, stands-first, square}
 use Rattle.promise.proofs.Next.{done-exactly}
-use Rattle.promise.proofs.Triangles.{steps-few, hierarchy-room}
+use Rattle.promise.proofs.Triangles.{steps-few, hierarchy-accepted}
 use Rattle.buffers.specs.Placed.{Put}
 use Rattle.buffers.specs.Decimal.{decimal}
 use Rattle.buffers.proofs.Placing.{put-then}
@@ -84,24 +84,16 @@ module _ {s : Session} {t heads steps text : List ℕ} {at : ℕ} (ready : Settl
     where
       -- where no pair is open and there is room hierarchy refuses nothing
       pub never-refused-here : {number place : ℕ} → w ≡ Counted.Refused number place → ⊥
-      never-refused-here {number} e =
+      never-refused-here e =
           let r = rw e at h in
-          go (hierarchy-room s t heads steps (ready .heads-room) (ready .steps-room) r) (refused r)
-          (stands-first (hierarchyRefusals s t heads steps) stands (r .number))
-        where
-          refused :
-              {place : ℕ} → Owed (hierarchy s t heads steps) (Counted.Refused number place, (heads′, steps′))
-              → number ≢ 0
-          refused r z =
-              let d = r .done z in
-              let same = ap (λ (o : Counted × (List ℕ × List ℕ)). o .0) (d .4) in
-              let y : _≡_ {A = ℕ} 0 1 = cc in
-              omega arith
-
-          go : {k : ℕ} → k ≢ 8 → k ≢ 0 → First (hierarchyRefusals s t heads steps) k → ⊥
-          go ne nz (inl (some, e)) = omega (arith, ready .none-open)
-          go ne nz (inr (_, inl (short, e))) = ne e
-          go ne nz (inr (_, inr (_, e))) = nz e
+          let d =
+          r .done
+          (hierarchy-accepted s t heads steps stands (ready .none-open) (omega (arith, classes-few, ready .heads-room))
+          (omega (arith, square (s .classes) classes-few, ready .steps-room)) r)
+          in
+          let same = ap (λ (o : Counted × (List ℕ × List ℕ)). o .0) (d .4) in
+          let z : _≡_ {A = ℕ} 0 1 = cc in
+          omega arith
 
       -- what was written: heads and steps
       written :

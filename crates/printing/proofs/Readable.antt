@@ -1,7 +1,6 @@
 -- What reading leaves can be used: its class count is at most 128, and its marks alone stand for its table.
 -- Assumes nothing.
 use mathlib.Core.Path.{_≡_, refl}
-use mathlib.Core.Logic.{⊎-elim}
 use mathlib.Core.List.{List, []}
 use Prim.Native.Nat.{ℕ, _*_, _≤_}
 use native.Mathlib.Omega.{arith}
@@ -21,9 +20,9 @@ pub few-classes : {book t : List ℕ} {r : Reply} {t′ : List ℕ} → BookRead
 few-classes {book} {t} {r} {t′} h = go (read-run h)
   where
     go : ReadAs book t r t′ → r .session .classes ≤ 128
-    go (ReadAs.not-begun p none same k) = rw none (omega arith)
-    go (ReadAs.whole k p run) = stands-of (fresh-run-stands run) .few
-    go (ReadAs.cut k run stop) = stands-of (fresh-run-stands run) .few
+    go (ReadAs.not-begun k p none same why) = rw none (omega arith)
+    go (ReadAs.whole k p right run) = stands-of (fresh-run-stands run) .few
+    go (ReadAs.cut k right run stop) = stands-of (fresh-run-stands run) .few
 
 pub few-marks :
     {book t : List ℕ} {r : Reply} {t′ : List ℕ} → BookRead book t r t′
@@ -36,9 +35,9 @@ accepted-stands : {book t : List ℕ} {r : Reply} {t′ : List ℕ} → r .numbe
 accepted-stands {book} {t} {r} {t′} accepted h = go (read-run h)
   where
     go : ReadAs book t r t′ → Stands (r .session) t′
-    go (ReadAs.not-begun p none same k) = absurd (⊎-elim (λ q. omega arith) (λ q. omega arith) k)
-    go (ReadAs.whole k p run) = stands-of (fresh-run-stands run)
-    go (ReadAs.cut k run stop) = absurd (k accepted)
+    go (ReadAs.not-begun k p none same why) = absurd (k accepted)
+    go (ReadAs.whole k p right run) = stands-of (fresh-run-stands run)
+    go (ReadAs.cut k right run stop) = absurd (k accepted)
 
 -- the marks of an accepted book's table can be used
 pub accepted-ready :

@@ -3,7 +3,7 @@
 -- Assumes nothing.
 use mathlib.Core.Path.{_≡_, sym, _∙_, subst}
 use mathlib.Core.Logic.{_↔_, _≢_, _⊎_, inl, inr}
-use mathlib.Core.List.{List, [], _∷_, List·Memᴰ·head, List·Memᴰ·tail, List·Memᴰ·not-nil, List·Memᴰ·cases-cons}
+use mathlib.Core.List.{List, [], _∷_, map, List·Memᴰ·head, List·Memᴰ·tail, List·Memᴰ·not-nil, List·Memᴰ·cases-cons}
 use Prim.Native.Nat.{ℕ, _<_}
 use Rattle.order.specs.Facts.{Fact, Facts, Listed, _and_, _⊆_, Within}
 use Rattle.order.specs.Tables.{mark, TableOf}
@@ -13,8 +13,9 @@ use Rattle.order.proofs.Tables.{table-unique, table-of-equals}
 use Rattle.order.proofs.Exactness.{possible-subset, table-possible}
 use Rattle.order.proofs.Bytes.{same-list, rest-sym, rest-trans}
 use Rattle.promise.specs.declared.Session.{Session}
+use Rattle.promise.specs.Tell.{Kind}
 use Rattle.promise.specs.Runs.{StandsFor, Intake, SaidBy, Said, Fits, AllFit, Made, Run, FromFresh, callsOf}
-use Rattle.promise.specs.Runs.{FactByFact, Accepted, AllAccepted}
+use Rattle.promise.specs.Runs.{Accepted, AllAccepted}
 use Rattle.promise.proofs.Fresh.{fresh-stands}
 use Rattle.promise.proofs.Taking.{leaves-stands}
 use Rattle.promise.proofs.Runs.{intake-leaves, intake-accepted, run-stands, run-tests, run-rest, fresh-run-began}
@@ -49,32 +50,35 @@ pub contained-agree :
 contained-agree {n} {made = made} {made₂ = made₂} h h₂ all all₂ i =
     fresh-runs-agree h h₂ (λ f m. accepted-said n made₂ all₂ f .1 (i f (accepted-said n made all f .0 m)))
 
--- facts taken in one by one say what is listed
+-- facts taken in one by one, each told or given as an answer, say what is listed
 pub listed-said :
-    (n : ℕ) {l : List Fact} {calls : List Intake} → FactByFact l calls → (f : Fact) → Said n calls f ↔ Listed l f
-listed-said n FactByFact.none f = (λ i. absurd i, λ i. absurd (List·Memᴰ·not-nil i))
-listed-said n (FactByFact.first {f = g} {l = l} {later = later} each) f =
-    let q = listed-said n each f in (there q, λ i. back q (List·Memᴰ·cases-cons i))
+    {A : Type 0} (n : ℕ) (kind : A → Kind) (fact : A → Fact) (l : List A) (f : Fact)
+    → Said n (map (λ x. Intake.fact (kind x) (fact x)) l) f ↔ Listed (map fact l) f
+listed-said n kind fact [] f = (λ i. absurd i, λ i. absurd (List·Memᴰ·not-nil i))
+listed-said n kind fact (x ∷ l) f =
+    let q = listed-said n kind fact l f in (there q, λ i. back q (List·Memᴰ·cases-cons i))
   where
-    Both : Type 0
-    Both = Said n later f ↔ Listed l f
+    Later : Type 0
+    Later = Said n (map (λ x. Intake.fact (kind x) (fact x)) l) f
 
-    there : Both → (f ≡ g) ⊎ Said n later f → Listed (g ∷ l) f
+    there : Later ↔ Listed (map fact l) f → (f ≡ fact x) ⊎ Later → Listed (map fact (x ∷ l)) f
     there q (inl e) = List·Memᴰ·head e
     there q (inr i) = List·Memᴰ·tail (q .0 i)
 
-    back : Both → (f ≡ g) ⊎ Listed l f → (f ≡ g) ⊎ Said n later f
+    back : Later ↔ Listed (map fact l) f → (f ≡ fact x) ⊎ Listed (map fact l) f → (f ≡ fact x) ⊎ Later
     back q (inl e) = inl e
     back q (inr i) = inr (q .1 i)
 
--- and of two lists of facts, each fact told or given as an answer
+-- and of two lists of facts, each with whether it is told or given as an answer
 pub lists-agree :
-    {n : ℕ} {l l₂ : List Fact} {t t₂ : List ℕ} {made made₂ : List Made} {s s₂ : Session} {u u₂ : List ℕ}
-    → FactByFact l (callsOf made) → FactByFact l₂ (callsOf made₂) → FromFresh n t made s u
-    → FromFresh n t₂ made₂ s₂ u₂ → AllAccepted made → AllAccepted made₂ → Listed l ⊆ Listed l₂
+    {n : ℕ} (l l₂ : List (Kind × Fact)) {t t₂ : List ℕ} {made made₂ : List Made} {s s₂ : Session} {u u₂ : List ℕ}
+    → callsOf made ≡ map (λ x. Intake.fact (x .0) (x .1)) l → callsOf made₂ ≡ map (λ x. Intake.fact (x .0) (x .1)) l₂
+    → FromFresh n t made s u → FromFresh n t₂ made₂ s₂ u₂ → AllAccepted made → AllAccepted made₂
+    → Listed (map (λ x. x .1) l) ⊆ Listed (map (λ x. x .1) l₂)
     → (a b : ℕ) → a < n → b < n → mark n u a b ≢ 0 → mark n u₂ a b ≡ mark n u a b
-lists-agree {n} each each₂ h h₂ all all₂ i =
-    contained-agree h h₂ all all₂ (λ f m. listed-said n each₂ f .1 (i f (listed-said n each f .0 m)))
+lists-agree {n} l l₂ each each₂ h h₂ all all₂ i =
+    contained-agree h h₂ all all₂ (rw (each, each₂) (λ f m.
+    listed-said n (λ x. x .0) (λ x. x .1) l₂ f .1 (i f (listed-said n (λ x. x .0) (λ x. x .1) l f .0 m))))
 
 -- what calls that fit say is on classes below n
 all-within : (n : ℕ) (calls : List Intake) → AllFit n calls → Within n (Said n calls)

@@ -1,10 +1,10 @@
 -- What a book comes to, tied to its bytes: each fact is what the bytes at its place say, in a field that is not
--- refused; the class count comes first and once; places rise; every field stands behind fields that are not refused.
+-- refused; the class count comes first and once; ranks rise; every field stands behind fields that are not refused.
 -- Assumes nothing.
 use mathlib.Core.Path.{_≡_, refl, sym, _∙_, ap, subst}
 use mathlib.Core.Bool.{false≢true}
-use mathlib.Core.List.{List, [], _∷_, _++_}
-use Prim.Native.Nat.{ℕ, zero, suc, _+_, _*_, _/_, _≤_}
+use mathlib.Core.List.{List, [], _∷_, _++_, List·Memᴰ, List·Memᴰ·head, List·Memᴰ·tail, List·Memᴰ·not-nil}
+use Prim.Native.Nat.{ℕ, zero, suc, _+_, _*_, _/_, _≤_, _<_}
 use native.Mathlib.Nat.{suc-mul}
 use native.Mathlib.Omega.{arith}
 use lib.ListN.{length, getD, drop, length-drop}
@@ -18,13 +18,13 @@ use Rattle.promise.specs.Book.{fieldSays, stageBehind, itemsFrom, itemsO
 use Rattle.promise.proofs.Tags.{FactsTag, RowIs, row-is, Right, field-right, facts-width, facts-fit}
 use Rattle.promise.proofs.Items.{facts-step}
 
--- q is the tag byte of a field, at a stage of reading: the first of the book, or the one behind a field that is not
--- refused
+-- q is the index of the tag byte of a field, at a stage of reading: the first byte of the book, or the one behind a
+-- field that is not refused
 pub data FieldAt (book : List ℕ) : ℕ → Stage → Type 0 where
-  start : FieldAt book 0 Start
+  start : 0 < length book → FieldAt book 0 Start
   behind :
       {q : ℕ} {stage : Stage} → FieldAt book q stage → First (fieldRefusals stage (drop q book)) 0
-      → FieldAt book (q + sizeOf (drop q book)) Begun
+      → q + sizeOf (drop q book) < length book → FieldAt book (q + sizeOf (drop q book)) Begun
 
 -- a field that is not refused ends within the book
 pub ends-within :
@@ -32,12 +32,12 @@ pub ends-within :
     → q + sizeOf (drop q book) ≤ length book
 ends-within book q stage right = omega (arith, field-right stage (drop q book) right .1, length-drop q book)
 
-pub field-within : {book : List ℕ} {q : ℕ} {stage : Stage} → FieldAt book q stage → q ≤ length book
-field-within FieldAt.start = omega arith
-field-within {book} (FieldAt.behind {q} {stage} at right) = ends-within book q stage right
+pub field-within : {book : List ℕ} {q : ℕ} {stage : Stage} → FieldAt book q stage → q < length book
+field-within (FieldAt.start some) = some
+field-within (FieldAt.behind at right more) = more
 
--- the fact at place p: its two classes are the bytes there, and it stands in a field that is not refused, whose tag
--- says how it is taken and what its verdict is
+-- the fact whose first byte stands at place p: its two classes are the bytes there, and whole facts lie between it and
+-- the head of its field, which is not refused, and whose tag says how it is taken and what its verdict is
 pub record SaidAt (book : List ℕ) (p : ℕ) (kind : Kind) (a b v : ℕ) : Type 0 where
   pub lower : a ≡ getD book p 0
   pub upper : b ≡ getD book (p + 1) 0
@@ -47,16 +47,21 @@ pub record SaidAt (book : List ℕ) (p : ℕ) (kind : Kind) (a b v : ℕ) : Type
   pub width : ℕ
   pub verdict : List ℕ → ℕ
   pub tag : FactsTag (getD (drop field book) 0 0) width kind verdict
-  pub from : field + 3 ≤ p
+  pub before : ℕ
+  pub from : p ≡ field + 3 + before * width
   pub to : p + width ≤ field + sizeOf (drop field book)
   pub says : v ≡ verdict (drop p book)
 
--- places rise, from at on; a class count stands where its field does
-abbrev pub PlacesRise : ℕ → List Item → Type 0
-PlacesRise at [] = Unit {0}
-PlacesRise at (Item.head p stage bytes ∷ items) = (at ≤ p) × PlacesRise p items
-PlacesRise at (Item.begin p n ∷ items) = (at ≤ p) × PlacesRise (suc p) items
-PlacesRise at (Item.said p kind a b v ∷ items) = (at ≤ p) × PlacesRise (suc p) items
+-- where an item stands among others: by its place, and a class count behind the field that says it
+abbrev pub rank : Item → ℕ
+rank (Item.head p stage bytes) = 2 * p
+rank (Item.begin p n) = 1 + 2 * p
+rank (Item.said p kind a b v) = 2 * p
+
+-- ranks rise, from at on
+abbrev pub Rises : ℕ → List Item → Type 0
+Rises at [] = Unit {0}
+Rises at (item ∷ items) = (at ≤ rank item) × Rises (suc (rank item)) items
 
 -- fields behind the first, and their facts; of a field that is refused nothing more is said
 abbrev pub Later : List ℕ → List Item → Type 0
@@ -71,7 +76,7 @@ Later book (Item.said p kind a b v ∷ items) = SaidAt book p kind a b v × Late
 abbrev pub CountFirst : List ℕ → List Item → Type 0
 CountFirst book [] = ⊥
 CountFirst book (Item.head p stage bytes ∷ items) = ⊥
-CountFirst book (Item.begin p n ∷ items) = (p ≡ 0) × (n ≡ getD book 3 0) × PlacesRise 1 items × Later book items
+CountFirst book (Item.begin p n ∷ items) = (p ≡ 0) × (n ≡ getD book 3 0) × Rises 2 items × Later book items
 CountFirst book (Item.said p kind a b v ∷ items) = ⊥
 
 -- the first field, and where it is not refused, what it says and what stands behind it
@@ -82,40 +87,35 @@ Whole book (Item.head p stage bytes ∷ items) =
 Whole book (Item.begin p n ∷ items) = ⊥
 Whole book (Item.said p kind a b v ∷ items) = ⊥
 
-rise-from : (at e : ℕ) (items : List Item) → at ≤ e → PlacesRise e items → PlacesRise at items
+rise-from : (at e : ℕ) (items : List Item) → at ≤ e → Rises e items → Rises at items
 rise-from at e [] h l = tt
-rise-from at e (Item.head p stage bytes ∷ items) h l = (omega (arith, l .0), l .1)
-rise-from at e (Item.begin p n ∷ items) h l = (omega (arith, l .0), l .1)
-rise-from at e (Item.said p kind a b v ∷ items) h l = (omega (arith, l .0), l .1)
+rise-from at e (item ∷ items) h l = (omega (arith, l .0), l .1)
 
 facts-rise :
-    (count width : ℕ) (kind : Kind) (verdict : List ℕ → ℕ) (p e : ℕ) (bytes : List ℕ) (items : List Item) → 2 ≤ width
-    → p + count * width ≤ e → PlacesRise e items → PlacesRise p (factsFrom count width kind verdict p bytes ++ items)
+    (count width : ℕ) (kind : Kind) (verdict : List ℕ → ℕ) (at p e : ℕ) (bytes : List ℕ) (items : List Item)
+    → 2 ≤ width → at ≤ 2 * p → p + count * width ≤ e → Rises (2 * e) items
+    → Rises at (factsFrom count width kind verdict p bytes ++ items)
 unfolding factsFrom
-facts-rise zero width kind verdict p e bytes items wide h l = rise-from p e items (omega arith) l
-facts-rise (suc count) width kind verdict p e bytes items wide h l = (
-  omega arith,
-  rise-from (suc p) (p + width) (factsFrom count width kind verdict (p + width) (drop width bytes) ++ items)
-      (omega arith)
-      (facts-rise count width kind verdict (p + width) e (drop width bytes) items wide
-      (omega (arith, suc-mul count width)) l),
+facts-rise zero width kind verdict at p e bytes items wide from h l = rise-from at (2 * e) items (omega arith) l
+facts-rise (suc count) width kind verdict at p e bytes items wide from h l = (
+  from,
+  facts-rise count width kind verdict (suc (2 * p)) (p + width) e (drop width bytes) items wide (omega arith)
+      (omega (arith, suc-mul count width)) l,
 )
 
 says-rise :
     {tag : ℕ} {l : Lookup} → RowIs tag l → (at : ℕ) (bytes : List ℕ) (items : List Item)
-    → PlacesRise (at + sizeOf bytes) items → PlacesRise at (fieldSays l at bytes ++ items)
-says-rise (RowIs.unknown u) at bytes items h = rise-from at (at + sizeOf bytes) items (omega arith) h
+    → Rises (2 * (at + sizeOf bytes)) items → Rises (suc (2 * at)) (fieldSays l at bytes ++ items)
+says-rise (RowIs.unknown u) at bytes items h =
+    rise-from (suc (2 * at)) (2 * (at + sizeOf bytes)) items (omega arith) h
 says-rise (RowIs.count e) at bytes items h =
-    (omega arith, rise-from (suc at) (at + sizeOf bytes) items (omega arith) h)
+    (omega arith, rise-from (suc (1 + 2 * at)) (2 * (at + sizeOf bytes)) items (omega arith) h)
 says-rise (RowIs.facts {width} {kind} {verdict} t) at bytes items h =
-    rise-from at (at + 3) (factsFrom (lengthOf bytes / width) width kind verdict (at + 3) (drop 3 bytes) ++ items)
-    (omega arith)
-    (facts-rise (lengthOf bytes / width) width kind verdict (at + 3) (at + sizeOf bytes) (drop 3 bytes) items
-    (facts-width t)
-    (omega (arith, facts-fit (lengthOf bytes) width)) h)
+    facts-rise (lengthOf bytes / width) width kind verdict (suc (2 * at)) (at + 3) (at + sizeOf bytes) (drop 3 bytes)
+    items (facts-width t) (omega arith) (omega (arith, facts-fit (lengthOf bytes) width)) h
 
--- places rise, whatever the bytes are
-pub items-rise : (fuel : ℕ) (stage : Stage) (at : ℕ) (bytes : List ℕ) → PlacesRise at (itemsFrom fuel stage at bytes)
+-- ranks rise, whatever the bytes are
+items-rise : (fuel : ℕ) (stage : Stage) (at : ℕ) (bytes : List ℕ) → Rises (2 * at) (itemsFrom fuel stage at bytes)
 unfolding itemsFrom
 items-rise zero stage at bytes = tt
 items-rise (suc fuel) stage at [] = tt
@@ -127,6 +127,30 @@ items-rise (suc fuel) stage at (tag ∷ bytes) =
           (items-rise fuel (stageBehind (rowOf tag) stage) (at + sizeOf field) (drop (sizeOf field) field)),
     )
 
+pub book-rises : (book : List ℕ) → Rises 0 (itemsOf book)
+book-rises [] = (omega arith, tt)
+book-rises (tag ∷ bytes) = items-rise (suc (length bytes)) Start 0 (tag ∷ bytes)
+
+-- where ranks rise, no two items have the same
+
+rank-from : (at : ℕ) (items : List Item) → Rises at items → (item : Item) → List·Memᴰ item items → at ≤ rank item
+rank-from at [] l item i = absurd (List·Memᴰ·not-nil i)
+rank-from at (first ∷ items) l item (List·Memᴰ·head e) = rw e (l .0)
+rank-from at (first ∷ items) l item (List·Memᴰ·tail i) =
+    omega (arith, l .0, rank-from (suc (rank first)) items (l .1) item i)
+
+pub rank-once :
+    (at : ℕ) (items : List Item) → Rises at items → (x y : Item) → List·Memᴰ x items → List·Memᴰ y items
+    → rank x ≡ rank y → x ≡ y
+rank-once at [] l x y i j same = absurd (List·Memᴰ·not-nil i)
+rank-once at (first ∷ items) l x y (List·Memᴰ·head e) (List·Memᴰ·head e₂) same = e ∙ sym e₂
+rank-once at (first ∷ items) l x y (List·Memᴰ·head e) (List·Memᴰ·tail j) same =
+    absurd (omega (arith, rank-from (suc (rank first)) items (l .1) y j, ap rank e, same))
+rank-once at (first ∷ items) l x y (List·Memᴰ·tail i) (List·Memᴰ·head e) same =
+    absurd (omega (arith, rank-from (suc (rank first)) items (l .1) x i, ap rank e, same))
+rank-once at (first ∷ items) l x y (List·Memᴰ·tail i) (List·Memᴰ·tail j) same =
+    rank-once (suc (rank first)) items (l .1) x y i j same
+
 -- the facts of a field that is not refused, and what stands behind it
 module _
     (book : List ℕ) (q : ℕ) (is-field : FieldAt book q Begun) (right : First (fieldRefusals Begun (drop q book)) 0)
@@ -134,11 +158,11 @@ module _
     (items : List Item) (after : Later book items)
   where
     facts-later :
-        (count p : ℕ) → q + 3 ≤ p → p + count * width ≤ q + sizeOf (drop q book)
+        (count before p : ℕ) → p ≡ q + 3 + before * width → p + count * width ≤ q + sizeOf (drop q book)
         → Later book (factsFrom count width kind verdict p (drop p book) ++ items)
     unfolding factsFrom
-    facts-later zero p from to = after
-    facts-later (suc count) p from to =
+    facts-later zero before p from to = after
+    facts-later (suc count) before p from to =
         subst (λ (l : List Item). Later book (l ++ items)) (sym (facts-step count width kind verdict p book)) (
           record {
             lower = refl;
@@ -149,11 +173,13 @@ module _
             width = width;
             verdict = verdict;
             tag = tag;
+            before = before;
             from = from;
             to = omega (arith, suc-mul count width);
             says = refl;
           },
-          facts-later count (p + width) (omega arith) (omega (arith, suc-mul count width)),
+          facts-later count (suc before) (p + width) (omega (arith, suc-mul before width))
+              (omega (arith, suc-mul count width)),
         )
 
 not-start : {stage : Stage} → stage ≡ Begun → stage ≡ Start → ⊥
@@ -179,7 +205,7 @@ field-later book at bytes items e is-field right after =
     go l (Right.facts {width} {kind} {verdict} _ t _) =
         subst (λ (k : List ℕ). Later book (factsFrom (lengthOf f / width) width kind verdict (at + 3) k ++ items))
         (sym (drop-drop 3 at book))
-        (facts-later book at is-field here t items after (lengthOf f / width) (at + 3) (omega arith)
+        (facts-later book at is-field here t items after (lengthOf f / width) 0 (at + 3) (omega arith)
         (omega (arith, facts-fit (lengthOf f) width)))
 
 -- what stands behind a field is at the stage Begun
@@ -193,20 +219,24 @@ stage-behind stage bytes right = go (field-right stage bytes right .0)
 
 field-behind :
     (book : List ℕ) (at : ℕ) (stage : Stage) (bytes : List ℕ) → bytes ≡ drop at book → FieldAt book at stage
-    → First (fieldRefusals stage bytes) 0 → FieldAt book (at + sizeOf bytes) Begun
-field-behind book at stage bytes e is-field right =
-    subst (λ (f : List ℕ). First (fieldRefusals stage f) 0 → FieldAt book (at + sizeOf f) Begun) (sym e)
-    (FieldAt.behind is-field) right
+    → First (fieldRefusals stage bytes) 0 → at + sizeOf bytes < length book → FieldAt book (at + sizeOf bytes) Begun
+field-behind book at stage bytes e is-field =
+    subst
+    (λ (f : List ℕ).
+    First (fieldRefusals stage f) 0 → at + sizeOf f < length book → FieldAt book (at + sizeOf f) Begun)
+    (sym e)
+    (FieldAt.behind is-field)
 
 -- the fields behind the first
 items-later :
-    (fuel at : ℕ) (book bytes : List ℕ) → bytes ≡ drop at book → FieldAt book at Begun
+    (fuel at : ℕ) (book bytes : List ℕ) → bytes ≡ drop at book → (at < length book → FieldAt book at Begun)
     → Later book (itemsFrom fuel Begun at bytes)
 unfolding itemsFrom
-items-later zero at book bytes e is-field = tt
-items-later (suc fuel) at book [] e is-field = tt
-items-later (suc fuel) at book (tag ∷ bytes) e is-field =
-    let field = tag ∷ bytes in (
+items-later zero at book bytes e here = tt
+items-later (suc fuel) at book [] e here = tt
+items-later (suc fuel) at book (tag ∷ bytes) e here =
+    let field = tag ∷ bytes in
+    let is-field = here (omega (arith, length-drop at book, ap (λ (l : List ℕ). length l) e)) in (
       refl,
       e,
       is-field,
@@ -246,9 +276,10 @@ items-whole (tag ∷ bytes)
     says l (Right.count _ _ _) e right = (
       refl,
       refl,
-      rise-from 1 (0 + sizeOf book) (itemsFrom (length bytes) Begun (0 + sizeOf book) (drop (sizeOf book) book))
+      rise-from 2 (2 * (0 + sizeOf book))
+          (itemsFrom (length bytes) Begun (0 + sizeOf book) (drop (sizeOf book) book))
           (omega arith)
           (items-rise (length bytes) Begun (0 + sizeOf book) (drop (sizeOf book) book)),
       items-later (length bytes) (0 + sizeOf book) book (drop (sizeOf book) book) (drop-drop (sizeOf book) 0 book)
-          (FieldAt.behind FieldAt.start right),
+          (FieldAt.behind (FieldAt.start (omega arith)) right),
     )

@@ -31,7 +31,7 @@ use Rattle.promise.proofs.Read.{callsSaid}
 use Rattle.promise.proofs.Write.{book-unique, book-by-marks}
 
 -- the length that a written field gives is that of its contents
-given-length : (tag : ℕ) (bytes rest : List ℕ) → lengthOf (field tag bytes ++ rest) ≡ length bytes
+pub given-length : (tag : ℕ) (bytes rest : List ℕ) → lengthOf (field tag bytes ++ rest) ≡ length bytes
 given-length tag bytes rest = div-add-mod' (length bytes) 256
 
 -- a written field is not refused where its tag may stand and allows the length

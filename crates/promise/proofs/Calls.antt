@@ -44,6 +44,10 @@ module _ {O : Type 0} (c : Call O) where
       let n = numbered k in
       record { number = rw n f; refused = λ _. ap (c .refused) (sym n); done = λ z. absurd (e (sym n ∙ z)) }
 
+  -- where none is due the call is accepted
+  pub owed-accepted : {o : O} → First (c .refusals) 0 → Owed c o → c .number o ≡ 0
+  owed-accepted {o} f h = first-unique (c .refusals) (c .number o) 0 (h .number) f
+
   pub owed-done : {o : O} → First (c .refusals) 0 → c .number o ≡ 0 → c .Done o → Owed c o
   owed-done f e d = record { number = rw e f; refused = λ z. absurd (z e); done = λ _. d }
 

@@ -393,18 +393,30 @@ pub bytes-unique :
     → Owed (clipBytes s t bytes) o₂ → o ≡ o₂
 bytes-unique = changes-unique (λ u v. table-unique)
 
--- where they fit, it is the clip of these flags
-pub bytes-fit :
-    (s : Session) (t bytes : List ℕ) {o : Reply × List ℕ} → Stands s t → FlagsFit (s .classes) bytes
-    → Owed (clip s t (flagsOf bytes)) o → Owed (clipBytes s t bytes) o
-bytes-fit s t bytes st fit h =
-    record {
-      number =
-          first-stands (bytesRefusals s t bytes) st
-          (inr (λ z. z fit, stands-first (clipRefusals s t (flagsOf bytes)) st (h .number)));
-      refused = h .refused;
-      done = h .done;
-    }
+-- where they fit, what is owed is what the clip of these flags owes: so what is said of clips is said of them
+pub bytes-clip :
+    {s : Session} {t bytes : List ℕ} {o : Reply × List ℕ} → FlagsFit (s .classes) bytes
+    → Owed (clipBytes s t bytes) o ↔ Owed (clip s t (flagsOf bytes)) o
+bytes-clip {s} {t} {bytes} {o} fit = (
+  λ h.
+      record {
+        number = standing-map (bytesRefusals s t bytes) (clipRefusals s t (flagsOf bytes)) s t fitted (h .number);
+        refused = h .refused;
+        done = h .done;
+      },
+  λ h.
+      record {
+        number =
+            standing-map (clipRefusals s t (flagsOf bytes)) (bytesRefusals s t bytes) s t (λ first.
+            inr (λ z. z fit, first)) (h .number);
+        refused = h .refused;
+        done = h .done;
+      },
+)
+  where
+    fitted : First (bytesRefusals s t bytes) (o .0 .number) → First (clipRefusals s t (flagsOf bytes)) (o .0 .number)
+    fitted (inl z) = absurd (z .0 fit)
+    fitted (inr z) = z .1
 
 -- where they do not, 5
 pub bytes-misfit :
@@ -418,7 +430,7 @@ unfoldable pub bytes-there : (s : Session) (t bytes : List ℕ) → (o : Reply �
 bytes-there s t bytes = start (standing-there [] s t (λ st. (0, refl)))
   where
     fits : Stands s t → Dec (FlagsFit (s .classes) bytes) → (o : Reply × List ℕ) × Owed (clipBytes s t bytes) o
-    fits st (yes fit) = let q = clip-there s t (flagsOf bytes) in (q .0, bytes-fit s t bytes st fit (q .1))
+    fits st (yes fit) = let q = clip-there s t (flagsOf bytes) in (q .0, bytes-clip fit .1 (q .1))
     fits st (no fit) = ((refusal 5 s, t), bytes-misfit s t bytes st fit)
 
     start : (k : ℕ) × First (standing s t []) k → (o : Reply × List ℕ) × Owed (clipBytes s t bytes) o

@@ -13,9 +13,14 @@ use Rattle.promise.specs.declared.CrossedQuestion.{CrossedQuestion}
 use Rattle.promise.specs.declared.CrossedCount.{CrossedCount}
 use Rattle.promise.specs.Calls.{Call, Owed, countNumber, openPairs, countFor, countForC, writesForC}
 use Rattle.promise.specs.Next.{questionNumber, next, questionFor, nextForC}
+use Rattle.promise.specs.Hierarchy.{hierarchy, ladder}
+use Rattle.promise.specs.Book.{write}
 use Rattle.promise.proofs.Calls.{Fixed, crossing-owed, crossing-there, crossing-unique}
 use Rattle.promise.proofs.Next.{next-fixed, next-there}
 use Rattle.promise.proofs.Counts.{open-pairs-fixed, open-pairs-there}
+use Rattle.promise.proofs.Hierarchy.{hierarchy-fixed, hierarchy-there}
+use Rattle.promise.proofs.Ladder.{ladder-fixed, ladder-written-there}
+use Rattle.promise.proofs.Write.{write-fixed, write-there}
 
 -- the number that C gets is that of the answer
 
@@ -49,7 +54,7 @@ module _ (s : Session) (t : List ℕ) where
   unfoldable pub open-pairs-for-C-there : (r : CrossedCount) × Owed (countForC (openPairs s t)) r
   open-pairs-for-C-there = crossing-there countFor (λ r. r .number) (openPairs s t) same-count (open-pairs-there s t)
 
--- any call that writes and counts: hierarchy, ladder, write
+-- any call that writes and counts, and then each: hierarchy, ladder, write
 module _
     {Bytes : Type 0} (c : Call (Counted × Bytes))
     (numbered : (o : Counted × Bytes) → countNumber (o .0) ≡ c .number o) where
@@ -69,3 +74,31 @@ module _
   unfoldable pub writes-for-C-there : (o : Counted × Bytes) × Owed c o → (i : CrossedCount × Bytes)
       × Owed (writesForC c) i
   writes-for-C-there = crossing-there image (λ o. o .0 .number) c same
+
+module _ (s : Session) (t heads steps : List ℕ) where
+  pub hierarchy-for-C-unique :
+      {o o₂ : CrossedCount × (List ℕ × List ℕ)} → Owed (writesForC (hierarchy s t heads steps)) o
+      → Owed (writesForC (hierarchy s t heads steps)) o₂ → o ≡ o₂
+  hierarchy-for-C-unique = writes-for-C-unique (hierarchy s t heads steps) (λ _. refl) (hierarchy-fixed s t heads steps)
+
+  unfoldable pub hierarchy-for-C-there :
+      (o : CrossedCount × (List ℕ × List ℕ)) × Owed (writesForC (hierarchy s t heads steps)) o
+  hierarchy-for-C-there = writes-for-C-there (hierarchy s t heads steps) (λ _. refl) (hierarchy-there s t heads steps)
+
+module _ (s : Session) (t : List ℕ) (a b : ℕ) (out : List ℕ) where
+  pub ladder-for-C-unique :
+      {o o₂ : CrossedCount × List ℕ} → Owed (writesForC (ladder s t a b out)) o
+      → Owed (writesForC (ladder s t a b out)) o₂ → o ≡ o₂
+  ladder-for-C-unique = writes-for-C-unique (ladder s t a b out) (λ _. refl) (ladder-fixed s t a b out)
+
+  unfoldable pub ladder-for-C-there : (o : CrossedCount × List ℕ) × Owed (writesForC (ladder s t a b out)) o
+  ladder-for-C-there = writes-for-C-there (ladder s t a b out) (λ _. refl) (ladder-written-there s t a b out)
+
+module _ (s : Session) (t out : List ℕ) where
+  pub write-for-C-unique :
+      {o o₂ : CrossedCount × List ℕ} → Owed (writesForC (write s t out)) o → Owed (writesForC (write s t out)) o₂
+      → o ≡ o₂
+  write-for-C-unique = writes-for-C-unique (write s t out) (λ _. refl) (write-fixed s t out)
+
+  unfoldable pub write-for-C-there : (o : CrossedCount × List ℕ) × Owed (writesForC (write s t out)) o
+  write-for-C-there = writes-for-C-there (write s t out) (λ _. refl) (write-there s t out)

@@ -1,7 +1,7 @@
 -- Fresh: one outcome for each input, and an accepted one stands for no facts.
 -- Assumes nothing.
 use mathlib.Core.Path.{_≡_, refl, sym, _∙_}
-use mathlib.Core.Logic.{inl, inr}
+use mathlib.Core.Logic.{_≢_, _⊎_, inl, inr}
 use mathlib.Core.List.{List, [], List·Memᴰ·not-nil}
 use Prim.Native.Nat.{ℕ, _*_, _≤_, _<_}
 use native.Mathlib.Decide.{ℕ-discrete, decLt, decLe}
@@ -51,13 +51,10 @@ fresh-accepted t some few room (inl (inr e, _)) = absurd (omega arith)
 fresh-accepted t some few room (inr (_, inl (e, _))) = absurd (omega arith)
 fresh-accepted t some few room (inr (_, inr (_, e))) = e
 
-pub fresh-numbers : {n : ℕ} {t : List ℕ} {r : Reply} {t′ : List ℕ} → Owed (fresh n t) (r, t′) → r .number ≤ 2
-fresh-numbers {n} {t} {r} h = go (h .number)
-  where
-    go : First (freshRefusals n t) (r .number) → r .number ≤ 2
-    go (inl (_, e)) = omega arith
-    go (inr (_, inl (_, e))) = omega arith
-    go (inr (_, inr (_, e))) = omega arith
+pub fresh-numbers : (n : ℕ) (t : List ℕ) (k : ℕ) → First (freshRefusals n t) k → k ≢ 0 → (k ≡ 1) ⊎ (k ≡ 2)
+fresh-numbers n t k (inl (_, e)) ne = inl e
+fresh-numbers n t k (inr (_, inl (_, e))) ne = inr e
+fresh-numbers n t k (inr (_, inr (_, e))) ne = absurd (ne e)
 
 unfoldable pub fresh-there : (n : ℕ) (t : List ℕ) → (o : Reply × List ℕ) × Owed (fresh n t) o
 fresh-there n t =

@@ -153,10 +153,10 @@ module _ (s : Session) (t heads steps : List ℕ) where
   both-short = TooShort (HeadsOf (s .classes) t) heads ⊎ TooShort (StepBytes (s .classes) t) steps
 
   -- what is known where a hierarchy is written
-  hierarchy-fits : First (hierarchyRefusals s t heads steps) 0 → ¬ both-short
-  hierarchy-fits (inl z) = absurd (omega (arith, z .1))
-  hierarchy-fits (inr (_, inl z)) = absurd (omega (arith, z .1))
-  hierarchy-fits (inr (_, inr z)) = z .0
+  hierarchy-passed : First (hierarchyRefusals s t heads steps) 0 → ¬ both-short
+  hierarchy-passed (inl z) = absurd (omega (arith, z .1))
+  hierarchy-passed (inr (_, inl z)) = absurd (omega (arith, z .1))
+  hierarchy-passed (inr (_, inr z)) = z .0
 
   pub hierarchy-fixed : Fixed (hierarchy s t heads steps)
   hierarchy-fixed f o o₂ d d₂ =
@@ -216,7 +216,7 @@ module _ (s : Session) (t heads steps : List ℕ) where
       go : Dec (countNumber (o .0) ≡ 0) → (length (o .1 .0) ≡ length heads) × (length (o .1 .1) ≡ length steps)
       go (yes e) =
           let d = h .done e in
-          let q = hierarchy-fits (standing-passed (hierarchyRefusals s t heads steps) s (rw e at (h .number)) .1) in (
+          let q = hierarchy-passed (standing-passed (hierarchyRefusals s t heads steps) s (rw e at (h .number)) .1) in (
             ap (λ (x : Counted × (List ℕ × List ℕ)). length (x .1 .0)) (d .4)
                 ∙ over-length (HeadsOf (s .classes) t) (d .0) heads (d .2) (λ z. q (inl z)),
             ap (λ (x : Counted × (List ℕ × List ℕ)). length (x .1 .1)) (d .4)

@@ -2,7 +2,7 @@
 -- heads strictly above it and under the goal falls; one outcome of the call for each input.
 -- Assumes nothing.
 use mathlib.Core.Path.{_≡_, refl, sym, _∙_, ap}
-use mathlib.Core.Logic.{_↔_, _≢_, _⊎_, inl, inr}
+use mathlib.Core.Logic.{_↔_, _≢_, _⊎_, inl, inr, ⊎-elim}
 use mathlib.Core.List.{List, [], _∷_}
 use Prim.Native.Nat.{ℕ, zero, suc, _≤_, _<_}
 use native.Mathlib.Nat.{le-antisymm}
@@ -20,7 +20,8 @@ use Rattle.promise.specs.Calls.{Owed, countNumber, TooShort}
 use Rattle.promise.specs.Hierarchy.{Under, Equal, HeadOf, Head, Third, Direct, NextRung, Ladder, LadderOf}
 use Rattle.promise.specs.Hierarchy.{Above, Number, ladderRefusals, ladder}
 use Rattle.promise.proofs.Standing.{Stands, standing-own, standing-passed, standing-there, below-of}
-use Rattle.promise.proofs.Calls.{Fixed, owed-unique}
+use Rattle.promise.proofs.Standing.{first-stands}
+use Rattle.promise.proofs.Calls.{Fixed, owed-unique, owed-accepted}
 use Rattle.promise.proofs.Counts.{too-short?, writes-fixed, writes-there, writes-length, writes-wrote}
 use Rattle.promise.proofs.Hierarchy.{head-unique, head-head, head-there, heads-equal, head?, under?, direct?}
 use Rattle.promise.proofs.Hierarchy.{third?}
@@ -377,6 +378,22 @@ module _ (s : Session) (t : List ℕ) (a b : ℕ) (out : List ℕ) where
       writes-length (standing s t (ladderRefusals s t a b out)) (LadderOf (s .classes) t a b) out (λ f.
       ladder-passed (standing-passed (ladderRefusals s t a b out) s f .1) .2)
 
+  -- a buffer of n bytes is not too short
+  ladder-fits : Stands s t → s .classes ≤ length out → ¬ TooShort (LadderOf (s .classes) t a b) out
+  ladder-fits st room (l, p, short) = omega (arith, ladder-few (s .classes) t (st .sound) p)
+
+  -- where no pair is open, a is under b and n rungs fit, nothing is refused
+  pub ladder-accepted :
+      {o : Counted × List ℕ} → Stands s t → a < s .classes → b < s .classes → opens (s .classes) t ≡ 0
+      → Under (s .classes) t a b → s .classes ≤ length out → Owed (ladder s t a b out) o → countNumber (o .0) ≡ 0
+  ladder-accepted st ha hb none under room =
+      owed-accepted (ladder s t a b out)
+      (first-stands (ladderRefusals s t a b out) st
+      (inr (
+        ⊎-elim (λ z. omega arith) (λ z. omega arith),
+        inr (λ z. omega arith, inr (λ z. z under, inr (ladder-fits st room, refl))),
+      )))
+
   -- with room for 128 rungs 8 never comes up
   pub ladder-room : {o : Counted × List ℕ} → 128 ≤ length out → Owed (ladder s t a b out) o → countNumber (o .0) ≢ 8
   ladder-room {o} room h e =
@@ -386,6 +403,5 @@ module _ (s : Session) (t : List ℕ) (a b : ℕ) (out : List ℕ) where
       go st (inl (_, k)) = omega arith
       go st (inr (_, inl (_, k))) = omega arith
       go st (inr (_, inr (_, inl (_, k)))) = omega arith
-      go st (inr (_, inr (_, inr (_, inl ((l, p, short), k))))) =
-          omega (arith, ladder-few (s .classes) t (st .sound) p, st .few)
+      go st (inr (_, inr (_, inr (_, inl (short, k))))) = ladder-fits st (omega (arith, st .few)) short
       go st (inr (_, inr (_, inr (_, inr (_, k))))) = omega arith

@@ -1,7 +1,8 @@
--- How long the book of a table is, that the longest one is written, and that each byte of a book is below 256.
+-- How long the book of a table is, that it is written exactly where it fits, that the longest one is written, and that
+-- each byte of a book is below 256.
 -- Assumes nothing.
 use mathlib.Core.Path.{_≡_, refl, sym, _∙_, ap}
-use mathlib.Core.Logic.{_≢_, inr}
+use mathlib.Core.Logic.{_↔_, _≢_, inr, Iff·not}
 use mathlib.Core.List.{List, [], _∷_, _++_, List·Memᴰ, List·Memᴰ·head, List·Memᴰ·tail}
 use Prim.Native.Nat.{ℕ, zero, suc, _+_, _*_, _≤_, _<_}
 use native.Mathlib.Nat.{suc-mul, mul-le-mul, mod-lt, div-lt-iff-lt-mul}
@@ -14,15 +15,17 @@ use Rattle.order.proofs.Tables.{Mark, which}
 use Rattle.order.proofs.Pairs.{length-bytes}
 use Rattle.order.proofs.Counting.{bit, bit-one, bit-none, bit-two, sum-add, sum-off, sum-off-most, pairs-length}
 use Rattle.order.proofs.Counts.{open-settled, opens-none, opens-sum}
-use Rattle.promise.specs.Refusals.{standing}
+use Rattle.promise.specs.Refusals.{First, standing}
 use Rattle.promise.specs.declared.Session.{Session}
+use Rattle.promise.specs.declared.Counted.{Counted}
 use Rattle.promise.specs.declared.Counted.the-variants.{Count}
-use Rattle.promise.specs.Calls.{started, Owed, over}
+use Rattle.promise.specs.Calls.{started, Owed, countNumber, over, TooShort}
 use Rattle.promise.specs.Book.{field, PairsMarked, BookOf, writeRefusals, write}
-use Rattle.promise.proofs.Standing.{Stands, square-above, standing-passed, first-stands}
-use Rattle.promise.proofs.Calls.{owed-done}
+use Rattle.promise.proofs.Standing.{Stands, square-above, standing-own, standing-passed, stands-first}
+use Rattle.promise.proofs.Standing.{first-stands}
+use Rattle.promise.proofs.Calls.{owed-accepted, owed-done}
 use Rattle.promise.proofs.Counts.{writes-wrote}
-use Rattle.promise.proofs.Write.{Off, off?, book-there}
+use Rattle.promise.proofs.Write.{Off, off?, book-there, write-passed}
 
 -- "10 + 2 times the count of both in bytes"
 pub book-length :
@@ -97,6 +100,43 @@ write-count s t out h =
     let w = writes-wrote (standing s t (writeRefusals s t out)) (BookOf (s .classes) t) out h in
     rw (w .2) (book-opens (w .1) (standing-passed (writeRefusals s t out) s (h .number) .0 .sound))
 
+-- a buffer is too short for the book where it has less
+book-short :
+    (n : ℕ) (t out : List ℕ) → Sound n t
+    → TooShort (BookOf n t) out ↔ (length out + 2 * (opens n t + n) < 10 + 2 * (n * n))
+book-short n t out sound =
+    let (book, is) = book-there n t in
+    (λ z. omega (arith, z .2, book-opens (z .1) sound), λ short. (book, is, omega (arith, book-opens is sound)))
+
+-- otherwise nothing is due: pairs that are open are no refusal
+write-none-due :
+    (s : Session) (t out : List ℕ) → Stands s t
+    → 10 + 2 * (s .classes * s .classes) ≤ length out + 2 * (opens (s .classes) t + s .classes)
+    → First (standing s t (writeRefusals s t out)) 0
+write-none-due s t out st room =
+    first-stands (writeRefusals s t out) st
+    (inr (λ z. omega (arith, book-short (s .classes) t out (st .sound) .0 z), refl))
+
+-- "writer 8": where none of 1 to 4 is due, a table is written exactly where its book fits, open pairs or none
+pub write-accepted :
+    (s : Session) (t out : List ℕ) {o : Counted × List ℕ} → Stands s t → Owed (write s t out) o
+    → (countNumber (o .0) ≡ 0)
+    ↔ (10 + 2 * (s .classes * s .classes) ≤ length out + 2 * (opens (s .classes) t + s .classes))
+write-accepted s t out st h = (
+  λ e.
+      let fits = write-passed s t out (stands-first (writeRefusals s t out) st (rw e at (h .number))) in
+      let long = Iff·not (book-short (s .classes) t out (st .sound)) .0 fits in omega (arith, long),
+  λ room. owed-accepted (write s t out) (write-none-due s t out st room) h,
+)
+
+-- with room for the longest book 8 never comes up
+pub write-room :
+    (s : Session) (t out : List ℕ) {o : Counted × List ℕ} → 32522 ≤ length out → Owed (write s t out) o
+    → countNumber (o .0) ≢ 8
+write-room s t out room h e =
+    let st = standing-own (writeRefusals s t out) s (inr (omega arith)) (h .number) .0 in
+    omega (arith, e, write-accepted s t out st h .1 (omega (arith, square-less (s .classes) (st .few))))
+
 -- a table of n classes that are all equal: each of its marks is yes
 unfoldable pub allYes : ℕ → List ℕ
 allYes n = replicate (n * n) 1
@@ -135,9 +175,7 @@ write-longest out room =
     let (book, is) = book-there 128 t in
     let size : length book ≡ 32522 = omega (arith, book-opens is (st .sound), all-yes-full 128) in (
       over book out,
-      owed-done (write (started 128) t out)
-          (first-stands (writeRefusals (started 128) t out) st
-          (inr (λ z. omega (arith, z .2, book-longest (z .1) (omega arith)), refl)))
+      owed-done (write (started 128) t out) (write-none-due (started 128) t out st (omega (arith, all-yes-full 128)))
           refl
           (book, is, ap (λ (k : ℕ). (Count k, over book out)) (sym size)),
     )
@@ -158,19 +196,22 @@ small-bytes (p ∷ l) h =
     let r = h (p .0) (p .1) (List·Memᴰ·head refl) in
     (r .0, (r .1, small-bytes l (λ a b i. h a b (List·Memᴰ·tail i))))
 
-small-field :
-    (tag : ℕ) (bytes : List ℕ) → tag < 256 → length bytes < 256 * 256 → Small bytes → Small (field tag bytes)
-small-field tag bytes ht hl h =
-    (ht, (div-lt-iff-lt-mul {k = 256} (omega arith) .1 hl, (mod-lt (length bytes) {m = 256} (omega arith), h)))
+-- "two-byte length": every length up to 65,535 can be written
+pub field-bytes :
+    (tag : ℕ) (bytes : List ℕ) → tag < 256 → length bytes ≤ 65535 → Small bytes → Small (field tag bytes)
+field-bytes tag bytes ht hl h = (
+  ht,
+  (div-lt-iff-lt-mul {k = 256} (omega arith) .1 (omega arith), (mod-lt (length bytes) {m = 256} (omega arith), h)),
+)
 
 pub book-bytes : {n : ℕ} {t book : List ℕ} → BookOf n t book → n ≤ 128 → Small book
 book-bytes {n} {t} h few =
     rw (h .bytes)
     (small-append (field 1 (n ∷ [])) (field 2 (bytesOf (h .yes-pairs)) ++ field 3 (bytesOf (h .no-pairs))) (omega arith)
     (small-append (field 2 (bytesOf (h .yes-pairs))) (field 3 (bytesOf (h .no-pairs)))
-    (small-field 2 (bytesOf (h .yes-pairs)) (omega arith) (omega (arith, pairs, length-bytes (h .yes-pairs)))
+    (field-bytes 2 (bytesOf (h .yes-pairs)) (omega arith) (omega (arith, pairs, length-bytes (h .yes-pairs)))
     (each (h .yes-listed)))
-    (small-field 3 (bytesOf (h .no-pairs)) (omega arith) (omega (arith, pairs, length-bytes (h .no-pairs)))
+    (field-bytes 3 (bytesOf (h .no-pairs)) (omega arith) (omega (arith, pairs, length-bytes (h .no-pairs)))
     (each (h .no-listed)))))
   where
     pairs : length (h .yes-pairs) + length (h .no-pairs) ≤ 16256

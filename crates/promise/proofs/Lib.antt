@@ -11,16 +11,18 @@ pub mod AnyOrder
 pub mod OneByOne
 pub mod Next
 pub mod Counts
-pub mod Crossing
 pub mod Hierarchy
 pub mod Ladder
 pub mod Tags
 pub mod Items
 pub mod Book
 pub mod Read
+pub mod Places
 pub mod Write
+pub mod Crossing
 pub mod Lengths
 pub mod BookSays
+pub mod BookOrders
 pub mod ReadBack
 pub mod Mantel
 pub mod Triangles
@@ -29,3 +31,4 @@ pub mod Worked
 pub mod Apart
 pub mod WrongAnswers
 pub mod MarksAlone
+pub mod Starts

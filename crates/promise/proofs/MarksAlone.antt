@@ -42,10 +42,11 @@ use Rattle.promise.proofs.Tell.{tell-passed, tell-opens}
 use Rattle.promise.proofs.Clips.{clip-session, clip-within}
 use Rattle.promise.proofs.Next.{next-unique}
 use Rattle.promise.proofs.Counts.{short-alike, writes-alike, open-pairs-unique}
-use Rattle.promise.proofs.Crossing.{next-for-C-unique, open-pairs-for-C-unique, writes-for-C-unique}
-use Rattle.promise.proofs.Hierarchy.{hierarchy-fixed, hierarchy-unique}
-use Rattle.promise.proofs.Ladder.{ladder-passed, ladder-fixed, ladder-written-unique}
-use Rattle.promise.proofs.Write.{book-by-marks, write-fixed, write-unique}
+use Rattle.promise.proofs.Crossing.{next-for-C-unique, open-pairs-for-C-unique, hierarchy-for-C-unique}
+use Rattle.promise.proofs.Crossing.{ladder-for-C-unique, write-for-C-unique}
+use Rattle.promise.proofs.Hierarchy.{hierarchy-unique}
+use Rattle.promise.proofs.Ladder.{ladder-passed, ladder-written-unique}
+use Rattle.promise.proofs.Write.{book-by-marks, write-unique}
 use Rattle.promise.proofs.Read.{read-both}
 use Rattle.promise.proofs.Runs.{run-both}
 
@@ -277,8 +278,7 @@ module _ (s : Session) {t t₂ : List ℕ} (m : SameMarks (s .classes) t t₂) (
       (heads steps : List ℕ) {o o₂ : CrossedCount × (List ℕ × List ℕ)} → Owed (writesForC (hierarchy s t heads steps)) o
       → Owed (writesForC (hierarchy s t₂ heads steps)) o₂ → o ≡ o₂
   hierarchy-for-C-marks-alone heads steps h h₂ =
-      writes-for-C-unique (hierarchy s t₂ heads steps) (λ _. refl) (hierarchy-fixed s t₂ heads steps)
-      (owed-alike (crossing-alike (hierarchy-alike heads steps)) h) h₂
+      hierarchy-for-C-unique s t₂ heads steps (owed-alike (crossing-alike (hierarchy-alike heads steps)) h) h₂
 
   ladder-alike : (a b : ℕ) (out : List ℕ) → CallsAlike (ladder s t a b out) (ladder s t₂ a b out)
   ladder-alike a b out =
@@ -322,8 +322,7 @@ module _ (s : Session) {t t₂ : List ℕ} (m : SameMarks (s .classes) t t₂) (
       (a b : ℕ) (out : List ℕ) {o o₂ : CrossedCount × List ℕ} → Owed (writesForC (ladder s t a b out)) o
       → Owed (writesForC (ladder s t₂ a b out)) o₂ → o ≡ o₂
   ladder-for-C-marks-alone a b out h h₂ =
-      writes-for-C-unique (ladder s t₂ a b out) (λ _. refl) (ladder-fixed s t₂ a b out)
-      (owed-alike (crossing-alike (ladder-alike a b out)) h) h₂
+      ladder-for-C-unique s t₂ a b out (owed-alike (crossing-alike (ladder-alike a b out)) h) h₂
 
   write-alike : (out : List ℕ) → CallsAlike (write s t out) (write s t₂ out)
   write-alike out =
@@ -347,8 +346,7 @@ module _ (s : Session) {t t₂ : List ℕ} (m : SameMarks (s .classes) t t₂) (
       (out : List ℕ) {o o₂ : CrossedCount × List ℕ} → Owed (writesForC (write s t out)) o
       → Owed (writesForC (write s t₂ out)) o₂ → o ≡ o₂
   write-for-C-marks-alone out h h₂ =
-      writes-for-C-unique (write s t₂ out) (λ _. refl) (write-fixed s t₂ out)
-      (owed-alike (crossing-alike (write-alike out)) h) h₂
+      write-for-C-unique s t₂ out (owed-alike (crossing-alike (write-alike out)) h) h₂
 
 -- Runs and reading: what is kept is that the marks and the length are the same.
 

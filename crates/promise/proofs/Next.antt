@@ -3,10 +3,12 @@
 use mathlib.Core.Path.{_≡_, refl, sym, _∙_, ap, ap₂, subst}
 use mathlib.Core.Logic.{_↔_, _⊎_, inl, inr}
 use mathlib.Core.Bool.{Bool}
-use mathlib.Core.List.{List, [], _∷_, List·Memᴰ, List·Memᴰ·head, List·Memᴰ·not-nil, List·Memᴰ·cases-cons}
-use Prim.Native.Nat.{ℕ, _+_, _≤_, _<_}
+use mathlib.Core.List.{List, [], _∷_, _++_, List·Memᴰ, List·Memᴰ·head, List·Memᴰ·not-nil, List·Memᴰ·cases-cons}
+use mathlib.Core.List.{head-eq-of-cons-eq, tail-eq-of-cons-eq}
+use Prim.Native.Nat.{ℕ, zero, suc, _+_, _≤_, _<_}
 use native.Mathlib.Decide.{ℕ-discrete, decLt}
 use native.Mathlib.Omega.{arith}
+use lib.ListN.{length, length-append}
 use Rattle.order.specs.Facts.{Fact, factOn}
 use Rattle.order.specs.Tables.{mark, opens, Pair, Before, Lists}
 use Rattle.promise.specs.Refusals.{First, standing}
@@ -24,7 +26,7 @@ use Rattle.promise.specs.Next.{questionNumber, FirstOpen, NoneOpen, Name
 use Rattle.promise.proofs.Standing.{Stands, standing-passed, stands-first, standing-there}
 use Rattle.promise.proofs.Calls.{Fixed, owed-unique, owed-there}
 use Rattle.promise.proofs.Taking.{leaves-keeps}
-use Rattle.promise.proofs.Tell.{tell-opens, tell-leaves}
+use Rattle.promise.proofs.Tell.{tell-there, tell-opens, tell-leaves}
 
 in-order : (a b c d : ℕ) → Before (a, b) (c, d) ⊎ Before (c, d) (a, b) ⊎ ((a ≡ c) × (b ≡ d))
 in-order a b c d = rows (decLt a c) (decLt c a) (decLt b d) (decLt d b)
@@ -102,8 +104,8 @@ next-there s t =
 
 -- Asking and answering.
 
--- the answer to the pair asked is accepted
-asked-accepted :
+-- the answer to the pair asked is accepted, whatever its verdict
+pub asked-accepted :
     {a b : ℕ} {v : Bool} {s : Session} {t : List ℕ} {r : Reply} {t′ : List ℕ} → Owed (next s t) (Ask a b)
     → Owed (tell Kind.answered s t (factOn a b v)) (r, t′) → r .number ≡ 0
 asked-accepted {a} {b} {v} {s} {t} {r} {t′} q h =
@@ -118,52 +120,150 @@ asked-accepted {a} {b} {v} {s} {t} {r} {t′} q h =
     go (inr (_, inl (z, e))) = absurd (mark-against-settled v (sym z ∙ q .done refl .is-open))
     go (inr (_, inr (_, e))) = e
 
--- each round settles an open pair at least, and leaves what can be asked of again
+-- One round: it counts one test, settles an open pair at least, and leaves what can be asked of again.
+module _
+    {s : Session} {t : List ℕ} {f : Fact} {r : Reply} {t₁ : List ℕ} (q : Owed (next s t) (Ask (f .lower) (f .upper)))
+    (h : Owed (tell Kind.answered s t f) (r, t₁)) where
+  round-opens :
+      (r .session .classes ≡ s .classes) × (r .session .tests ≡ s .tests + 1)
+      × (1 + opens (s .classes) t₁ ≤ opens (s .classes) t)
+  round-opens =
+      let one = ap (adds Kind.answered 0) (q .done refl .is-open) in
+      rw one at (tell-opens Kind.answered h 0 (asked-accepted q h))
+
+  round-stands : Stands s t → Stands (r .session) t₁
+  round-stands = leaves-keeps (tell-leaves Kind.answered h (asked-accepted q h))
+
+-- and so for rounds
 rounds-bounded :
-    {k : ℕ} {s s′ : Session} {t t′ : List ℕ} → Stands s t → Rounds k s t s′ t′
-    → Stands s′ t′ × (s′ .classes ≡ s .classes) × (k + opens (s .classes) t′ ≤ opens (s .classes) t)
+    {l : List Fact} {s s′ : Session} {t t′ : List ℕ} → Stands s t → Rounds l s t s′ t′
+    → Stands s′ t′ × (s′ .classes ≡ s .classes) × (length l + opens (s .classes) t′ ≤ opens (s .classes) t)
 rounds-bounded st Rounds.none = (st, refl, omega arith)
-rounds-bounded {k} {s} {s′} {t} {t′} st (Rounds.round {k = j} {a = a} {b = b} {v = v} {t₁ = t₁} {r = r} q h later) =
-    let e = asked-accepted q h in
-    let i = rounds-bounded (leaves-keeps (tell-leaves Kind.answered h e) st) later in
-    let o = tell-opens Kind.answered h 0 e in
-    let one : adds Kind.answered 0 (mark (s .classes) t a b) ≡ 1 = ap (adds Kind.answered 0) (q .done refl .is-open) in
-    let le : j + opens (s .classes) t′ ≤ opens (s .classes) t₁ =
-    subst (λ (n : ℕ). j + opens n t′ ≤ opens n t₁) (o .0) (i .2)
+rounds-bounded {s = s} {t′ = t′} st (Rounds.round {later = later} {t₁ = t₁} q h rounds) =
+    let i = rounds-bounded (round-stands q h st) rounds in
+    let o = round-opens q h in
+    let le : length later + opens (s .classes) t′ ≤ opens (s .classes) t₁ =
+    subst (λ (n : ℕ). length later + opens n t′ ≤ opens n t₁) (o .0) (i .2)
     in
-    (i .0, i .1 ∙ o .0, omega (arith, le, o .2, one))
+    (i .0, i .1 ∙ o .0, omega (arith, le, o .2))
 
 -- each round counts one test
 pub rounds-tests :
-    {k : ℕ} {s s′ : Session} {t t′ : List ℕ} → Rounds k s t s′ t′ → s′ .tests ≡ s .tests + k
+    {l : List Fact} {s s′ : Session} {t t′ : List ℕ} → Rounds l s t s′ t′ → s′ .tests ≡ s .tests + length l
 rounds-tests Rounds.none = omega arith
-rounds-tests {s = s} {t = t} (Rounds.round {a = a} {b = b} q h later) =
-    let one : adds Kind.answered 0 (mark (s .classes) t a b) ≡ 1 = ap (adds Kind.answered 0) (q .done refl .is-open) in
-    omega (arith, rounds-tests later, tell-opens Kind.answered h 0 (asked-accepted q h) .1)
+rounds-tests (Rounds.round q h later) = omega (arith, rounds-tests later, round-opens q h .1)
 
--- "So asking and answering the pair asked ends after at most as many answers as there were open pairs": after k
--- rounds next says done, or k is still below the number of pairs open at the start
+-- as long as next asks, there is one round more, whatever the verdict
+pub rounds-then :
+    {l : List Fact} {a b : ℕ} {v : Bool} {s s₁ : Session} {t t₁ t₂ : List ℕ} {r : Reply} → Rounds l s t s₁ t₁
+    → Owed (next s₁ t₁) (Ask a b) → Owed (tell Kind.answered s₁ t₁ (factOn a b v)) (r, t₂)
+    → Rounds (l ++ factOn a b v ∷ []) s t (r .session) t₂
+rounds-then Rounds.none q h = Rounds.round q h Rounds.none
+rounds-then (Rounds.round q₀ h₀ later) q h = Rounds.round q₀ h₀ (rounds-then later q h)
+
+-- after any rounds next says done, or the answers are still fewer than the pairs open at the start
 pub rounds-end :
-    {k : ℕ} {s s′ : Session} {t t′ : List ℕ} {q : Question} → First (standing s t []) 0 → Rounds k s t s′ t′
-    → Owed (next s′ t′) q → (q ≡ Done) ⊎ (k < opens (s .classes) t)
-rounds-end {k} {s} {s′} {t} {t′} {q} st rounds h = go q (h .number) (h .done)
+    {l : List Fact} {s s′ : Session} {t t′ : List ℕ} {q : Question} → First (standing s t []) 0 → Rounds l s t s′ t′
+    → Owed (next s′ t′) q → (q ≡ Done) ⊎ (length l < opens (s .classes) t)
+rounds-end {l} {s} {s′} {t} {t′} {q} st rounds h = go q (h .number) (h .done)
   where
-    i : Stands s′ t′ × (s′ .classes ≡ s .classes) × (k + opens (s .classes) t′ ≤ opens (s .classes) t)
+    i : Stands s′ t′ × (s′ .classes ≡ s .classes) × (length l + opens (s .classes) t′ ≤ opens (s .classes) t)
     i = rounds-bounded (standing-passed [] s st .0) rounds
 
     go :
         (q : Question) → First (standing s′ t′ []) (questionNumber q)
         → (questionNumber q ≡ 0 → Names (s′ .classes) t′ q)
-        → (q ≡ Done) ⊎ (k < opens (s .classes) t)
+        → (q ≡ Done) ⊎ (length l < opens (s .classes) t)
     go (Ask a b) f y = inr (some (y refl) (ℕ-discrete (opens (s .classes) t′) 0))
       where
-        some : FirstOpen (s′ .classes) t′ a b → Dec (opens (s .classes) t′ ≡ 0) → k < opens (s .classes) t
+        some : FirstOpen (s′ .classes) t′ a b → Dec (opens (s .classes) t′ ≡ 0) → length l < opens (s .classes) t
         some o (yes e) =
             absurd
             (opens-none (s′ .classes) t′ .0 (rw (i .1) e) a b (o .lower-below) (o .upper-below) (o .is-open))
         some o (no e) = omega (arith, i .2)
     go Done f y = inl refl
     go (Refused number place) f y = absurd (y (stands-first [] (i .0) f))
+
+-- Asking ends: answers, each with the verdict that its pair gets after the answers before it, lead to where next says
+-- done, and there are at most as many as there were open pairs.
+pub record AskingEnds (verdict : List Fact → ℕ → ℕ → Bool) (s : Session) (t : List ℕ) : Type 0 where
+  pub answers : List Fact
+  pub session : Session
+  pub table : List ℕ
+  pub rounds : Rounds answers s t session table
+  pub given :
+      (before later : List Fact) (f : Fact) → answers ≡ before ++ f ∷ later
+      → f .holds ≡ verdict before (f .lower) (f .upper)
+  pub done : Owed (next session table) Done
+  pub few : length answers ≤ opens (s .classes) t
+
+-- A pair is asked and gets its verdict: asking ends if it ends after that answer.
+module _
+    (verdict : List Fact → ℕ → ℕ → Bool) {a b : ℕ} {s : Session} {t : List ℕ} {r : Reply} {t₁ : List ℕ}
+    (q : Owed (next s t) (Ask a b)) (h : Owed (tell Kind.answered s t (factOn a b (verdict [] a b))) (r, t₁)) where
+  abbrev answer : Fact
+  answer = factOn a b (verdict [] a b)
+
+  ends-later : AskingEnds (λ l. verdict (answer ∷ l)) (r .session) t₁ → AskingEnds verdict s t
+  ends-later e =
+      record {
+        answers = answer ∷ e .answers;
+        session = e .session;
+        table = e .table;
+        rounds = Rounds.round q h (e .rounds);
+        given = given;
+        done = e .done;
+        few = let o = round-opens q h in omega (arith, rw (o .0) at (e .few), o .2);
+      }
+    where
+      given :
+          (before later : List Fact) (f : Fact) → answer ∷ e .answers ≡ before ++ f ∷ later
+          → f .holds ≡ verdict before (f .lower) (f .upper)
+      given [] later f same =
+          subst (λ (g : Fact). g .holds ≡ verdict [] (g .lower) (g .upper)) (head-eq-of-cons-eq same) refl
+      given (g ∷ before) later f same =
+          subst (λ (g : Fact). f .holds ≡ verdict (g ∷ before) (f .lower) (f .upper)) (head-eq-of-cons-eq same)
+          (e .given before later f (tail-eq-of-cons-eq same))
+
+-- asking ends if it ends wherever fewer pairs are open
+ends-if :
+    (verdict : List Fact → ℕ → ℕ → Bool) (s : Session) (t : List ℕ) → Stands s t
+    → ((verdict₁ : List Fact → ℕ → ℕ → Bool) (s₁ : Session) (t₁ : List ℕ) → Stands s₁ t₁
+    → opens (s₁ .classes) t₁ < opens (s .classes) t → AskingEnds verdict₁ s₁ t₁)
+    → AskingEnds verdict s t
+ends-if verdict s t st fewer = let q = next-there s t in go (q .0) (q .1)
+  where
+    go : (q : Question) → Owed (next s t) q → AskingEnds verdict s t
+    go (Ask a b) q =
+        let x = tell-there Kind.answered s t (factOn a b (verdict [] a b)) in
+        let o = round-opens q (x .1) in
+        ends-later verdict q (x .1) (fewer _ _ _ (round-stands q (x .1) st) (rw (o .0) (omega (arith, o .2))))
+    go Done q =
+        record {
+          answers = [];
+          session = s;
+          table = t;
+          rounds = Rounds.none;
+          given = λ before later f same. absurd (omega (arith, ap length same, length-append before (f ∷ later)));
+          done = q;
+          few = omega arith;
+        }
+    go (Refused number place) q = absurd (q .done (stands-first [] st (q .number)))
+
+ends-within :
+    (m : ℕ) (verdict : List Fact → ℕ → ℕ → Bool) (s : Session) (t : List ℕ) → Stands s t → opens (s .classes) t ≤ m
+    → AskingEnds verdict s t
+ends-within zero verdict s t st most = ends-if verdict s t st (λ _ _ _ _ less. absurd (omega arith))
+ends-within (suc m) verdict s t st most =
+    ends-if verdict s t st (λ verdict₁ s₁ t₁ st₁ less. ends-within m verdict₁ s₁ t₁ st₁ (omega arith))
+
+-- "So asking and answering the pair asked ends after at most as many answers as there were open pairs": whatever the
+-- verdicts, on each pair asked and after each answer
+pub rounds-there :
+    {s : Session} {t : List ℕ} → First (standing s t []) 0 → (verdict : List Fact → ℕ → ℕ → Bool)
+    → AskingEnds verdict s t
+rounds-there {s} {t} h verdict =
+    ends-within (opens (s .classes) t) verdict s t (standing-passed [] s h .0) (omega arith)
 
 -- next says done exactly when no pair is counted as open
 pub done-exactly : (s : Session) (t : List ℕ) {q : Question} → Owed (next s t) q → questionNumber q ≡ 0

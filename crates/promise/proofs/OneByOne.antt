@@ -4,7 +4,7 @@
 use mathlib.Core.Path.{_≡_, refl, sym, _∙_, ap, subst}
 use mathlib.Core.Logic.{_↔_, _≢_, _⊎_, inl, inr}
 use mathlib.Core.Bool.{Bool, false}
-use mathlib.Core.List.{List, [], _∷_, List·Memᴰ, List·Memᴰ·head, List·Memᴰ·tail, List·Memᴰ·not-nil}
+use mathlib.Core.List.{List, [], _∷_, map, map-id, List·Memᴰ, List·Memᴰ·head, List·Memᴰ·tail, List·Memᴰ·not-nil}
 use mathlib.Core.List.{List·Memᴰ·cases-cons}
 use Prim.Native.Nat.{ℕ}
 use native.Mathlib.Decide.{ℕ-discrete}
@@ -22,7 +22,7 @@ use Rattle.promise.specs.declared.Reply.{Reply}
 use Rattle.promise.specs.Calls.{refusal, Owed}
 use Rattle.promise.specs.Tell.{Kind, tell}
 use Rattle.promise.specs.Clips.{Flagged, ClipNo, MemberBeyond, clip}
-use Rattle.promise.specs.Runs.{StandsFor, Intake, taking, Said, FactByFact, AllFit, Made, Run, callsOf}
+use Rattle.promise.specs.Runs.{StandsFor, Intake, taking, Said, AllFit, Made, Run, callsOf}
 use Rattle.promise.specs.Runs.{AllAccepted}
 use Rattle.promise.proofs.Flags.{flagged?}
 use Rattle.promise.proofs.Standing.{standing-passed}
@@ -95,15 +95,10 @@ clip-listed n played = (noesOf pairs, λ f. (λ h. there f h, λ i. back f (noes
 -- The facts of a list, told one after the other.
 
 abbrev pub tellsOf : List Fact → List Intake
-tellsOf [] = []
-tellsOf (f ∷ l) = Intake.fact Kind.told f ∷ tellsOf l
-
-fact-by-fact : (l : List Fact) → FactByFact l (tellsOf l)
-fact-by-fact [] = FactByFact.none
-fact-by-fact (f ∷ l) = FactByFact.first (fact-by-fact l)
+tellsOf l = map (Intake.fact Kind.told) l
 
 tells-said : (n : ℕ) (l : List Fact) (f : Fact) → Said n (tellsOf l) f ↔ Listed l f
-tells-said n l = listed-said n (fact-by-fact l)
+tells-said n l f = rw (map-id l) at (listed-said n (λ _. Kind.told) (λ g. g) l f)
 
 tells-fit : (n : ℕ) (l : List Fact) → ((f : Fact) → Listed l f → Below n f) → AllFit n (tellsOf l)
 tells-fit n [] all = tt

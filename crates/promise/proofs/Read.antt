@@ -1,32 +1,31 @@
 -- Reading a book: one outcome for each input, and what two readings on two tables have in common; what was read is a
--- run from fresh of the facts said, all of them or those before the place; a refusal says where and why, at a place
--- within the book; numbers 3 and 4 never come up.
+-- run from fresh of the facts said, all of them or those before the place; a refusal says where and why.
 -- Assumes nothing.
 use mathlib.Core.Path.{_≡_, refl, sym, _∙_, ap, subst}
-use mathlib.Core.Logic.{_≢_, _⊎_, inl, inr}
-use mathlib.Core.List.{List, [], _∷_}
-use Prim.Native.Nat.{ℕ, suc, _≤_, _<_}
+use mathlib.Core.Logic.{_≢_, inl, inr}
+use mathlib.Core.List.{List, [], _∷_, List·Memᴰ, List·Memᴰ·head, List·Memᴰ·tail}
+use Prim.Native.Nat.{ℕ, suc, _+_, _*_, _≤_, _<_}
 use native.Mathlib.Decide.{ℕ-discrete, decLt}
 use native.Mathlib.Omega.{arith}
-use lib.ListN.{length, getD, drop}
+use lib.ListN.{getD, drop}
 use Rattle.order.specs.Facts.{Fact}
-use Rattle.promise.specs.Refusals.{First, badVerdict}
+use Rattle.promise.specs.Refusals.{Condition, First, badVerdict}
 use Rattle.promise.proofs.Refusals.{first-unique, stage as judge}
 use Rattle.promise.specs.declared.Stage.{Stage}
-use Rattle.promise.specs.declared.Stage.the-variants.{Begun}
+use Rattle.promise.specs.declared.Stage.the-variants.{Start, Begun}
 use Rattle.promise.specs.declared.Session.{Session}
 use Rattle.promise.specs.declared.Reply.{Reply}
 use Rattle.promise.specs.Calls.{noSession, reply, Owed}
-use Rattle.promise.specs.Tell.{Kind, fresh, tell}
+use Rattle.promise.specs.Tell.{Kind, freshRefusals, fresh, tellRefusals, tell}
 use Rattle.promise.specs.Runs.{Intake, Made, Run, FromFresh}
 use Rattle.promise.specs.Book.{fieldRefusals, Item, itemsOf, factOf, Ends, GoesOn, Follows, BookRead}
-use Rattle.promise.proofs.Standing.{Stands}
+use Rattle.promise.proofs.Standing.{Stands, stands-first}
 use Rattle.promise.proofs.Calls.{Keeps, unique-keeps, changes-kept}
-use Rattle.promise.proofs.Fresh.{fresh-unique, fresh-there, fresh-stands, fresh-numbers}
+use Rattle.promise.proofs.Fresh.{fresh-unique, fresh-there, fresh-stands}
 use Rattle.promise.proofs.Taking.{stands-of, leaves-keeps}
-use Rattle.promise.proofs.Tell.{tell-unique, tell-there, tell-leaves, tell-numbers}
-use Rattle.promise.proofs.Tags.{field-there, field-numbers}
-use Rattle.promise.proofs.Book.{FieldAt, field-within, ends-within, SaidAt, PlacesRise, Later, CountFirst}
+use Rattle.promise.proofs.Tell.{tell-unique, tell-there, tell-leaves}
+use Rattle.promise.proofs.Tags.{field-there}
+use Rattle.promise.proofs.Book.{FieldAt, SaidAt, rank, Rises, Later, CountFirst}
 use Rattle.promise.proofs.Book.{Whole, items-whole}
 
 -- Two readings of one book on two tables: what fresh, tell and answer keep, replying the same on both, holds in the end
@@ -176,17 +175,19 @@ abbrev pub itemsBefore : ℕ → List Item → List Item
 itemsBefore place [] = []
 itemsBefore place (item ∷ items) = ifBefore (decLt (placeOf item) place) item (itemsBefore place items)
 
--- Where a refused book stops: at the tag byte of a field, with 10 to 13, or at the first byte of a fact, with 14 for a
--- verdict above 1, and with 5 or 6.
-pub data Stopped (book : List ℕ) (number place : ℕ) : Type 0 where
+-- "each fact 14, 5, 6": its verdict, and then as tell and answer refuse it, with session s and table t
+abbrev pub factRefusals : Session → List ℕ → ℕ → ℕ → ℕ → List Condition
+factRefusals s t a b v = badVerdict v ∷ tellRefusals s t (factOf a b v)
+
+-- Where a book is refused behind its class count, and why: at one of these items, a field at its tag byte, by its
+-- bytes; or a fact at its first byte, by that fact and the session s and the table t that are left, those before it.
+pub data Stopped (book : List ℕ) (items : List Item) (number place : ℕ) (s : Session) (t : List ℕ) : Type 0 where
   at-field :
-      {stage : Stage} → FieldAt book place stage → First (fieldRefusals stage (drop place book)) number
-      → Stopped book number place
-  at-verdict : {kind : Kind} {a b v : ℕ} → SaidAt book place kind a b v → 1 < v → number ≡ 14
-      → Stopped book number place
+      List·Memᴰ (Item.head place Begun (drop place book)) items → FieldAt book place Begun
+      → First (fieldRefusals Begun (drop place book)) number → Stopped book items number place s t
   at-fact :
-      {kind : Kind} {a b v : ℕ} → SaidAt book place kind a b v → v ≤ 1 → (number ≡ 5) ⊎ (number ≡ 6)
-      → Stopped book number place
+      {kind : Kind} {a b v : ℕ} → List·Memᴰ (Item.said place kind a b v) items → SaidAt book place kind a b v
+      → First (factRefusals s t a b v) number → Stopped book items number place s t
 
 -- The items were followed from session s and table t: all, or those before the place.
 pub data Followed (book : List ℕ) (items : List Item) (s : Session) (t : List ℕ) (r : Reply) (t′ : List ℕ) : Type 0
@@ -194,7 +195,14 @@ pub data Followed (book : List ℕ) (items : List Item) (s : Session) (t : List 
     all : r .number ≡ 0 → r .place ≡ 0 → Run s t (callsSaid items) (r .session) t′ → Followed book items s t r t′
     some :
         r .number ≢ 0 → Run s t (callsSaid (itemsBefore (r .place) items)) (r .session) t′
-        → Stopped book (r .number) (r .place) → Followed book items s t r t′
+        → Stopped book items (r .number) (r .place) (r .session) t′ → Followed book items s t r t′
+
+-- one item more before it
+stopped-later :
+    {book : List ℕ} {items : List Item} {k p : ℕ} {s : Session} {t : List ℕ} (item : Item) → Stopped book items k p s t
+    → Stopped book (item ∷ items) k p s t
+stopped-later item (Stopped.at-field i q first) = Stopped.at-field (List·Memᴰ·tail i) q first
+stopped-later item (Stopped.at-fact i q first) = Stopped.at-fact (List·Memᴰ·tail i) q first
 
 -- an item that is not before the place
 passed-over :
@@ -206,17 +214,17 @@ passed-over item place items h = go (decLt (placeOf item) place)
     go (yes z) = absurd (omega arith)
     go (no z) = refl
 
-none-before : (place at : ℕ) (items : List Item) → place ≤ at → PlacesRise at items → itemsBefore place items ≡ []
+-- an item stands no earlier than its rank says
+rank-place : (item : Item) → rank item ≤ 1 + 2 * placeOf item
+rank-place (Item.head p stage bytes) = omega arith
+rank-place (Item.begin p n) = omega arith
+rank-place (Item.said p kind a b v) = omega arith
+
+pub none-before : (place at : ℕ) (items : List Item) → 2 * place ≤ at → Rises at items → itemsBefore place items ≡ []
 none-before place at [] h l = refl
-none-before place at (Item.head p stage bytes ∷ items) h l =
-    passed-over (Item.head p stage bytes) place items (omega (arith, l .0))
-    ∙ none-before place p items (omega (arith, l .0)) (l .1)
-none-before place at (Item.begin p n ∷ items) h l =
-    passed-over (Item.begin p n) place items (omega (arith, l .0))
-    ∙ none-before place (suc p) items (omega (arith, l .0)) (l .1)
-none-before place at (Item.said p kind a b v ∷ items) h l =
-    passed-over (Item.said p kind a b v) place items (omega (arith, l .0))
-    ∙ none-before place (suc p) items (omega (arith, l .0)) (l .1)
+none-before place at (item ∷ items) h l =
+    passed-over item place items (omega (arith, l .0, rank-place item))
+    ∙ none-before place (suc (rank item)) items (omega (arith, l .0)) (l .1)
 
 -- the calls said by an item that is before the place, and by a field or a class count anywhere
 
@@ -255,11 +263,11 @@ count-calls p n place items = go (decLt p place)
 -- the book stops at the first of these items, so that none of them was taken
 stops-here :
     (book : List ℕ) (k p : ℕ) (items : List Item) {s : Session} {t : List ℕ} {r : Reply} {t′ : List ℕ}
-    → PlacesRise p items → k ≢ 0 → Stopped book k p → Ends k p s t r t′ → Followed book items s t r t′
+    → Rises (2 * p) items → k ≢ 0 → Stopped book items k p s t → Ends k p s t r t′ → Followed book items s t r t′
 stops-here book k p items {s} {t} l ne stop e =
     rw (e .0, e .1)
     (Followed.some ne
-    (subst (λ (l : List Item). Run s t (callsSaid l) s t) (sym (none-before p p items (omega arith) l)) Run.stop)
+    (subst (λ (l : List Item). Run s t (callsSaid l) s t) (sym (none-before p (2 * p) items (omega arith) l)) Run.stop)
     stop)
 
 -- a verdict that is refused, and one that is not
@@ -267,19 +275,19 @@ verdict-refused : {v k : ℕ} → First (badVerdict v ∷ []) k → k ≢ 0 → 
 verdict-refused (inl h) ne = h
 verdict-refused (inr h) ne = absurd (ne (h .1))
 
-verdict-right : {v k : ℕ} → First (badVerdict v ∷ []) k → k ≡ 0 → v ≤ 1
+verdict-right : {v k : ℕ} → First (badVerdict v ∷ []) k → k ≡ 0 → ¬ (1 < v)
 verdict-right (inl h) e = absurd (omega (arith, h .1))
-verdict-right (inr h) e = omega (arith, h .0)
+verdict-right (inr h) e = h .0
 
 -- what follows an item, where the reading goes on
 abbrev Onward : List ℕ → ℕ → List Item → Session → List ℕ → Reply → List ℕ → Type 0
-Onward book at items s t r t′ = (r .number ≢ 0 → at ≤ r .place) × Followed book items s t r t′
+Onward book at items s t r t′ = (r .number ≢ 0 → at ≤ 2 * r .place) × Followed book items s t r t′
 
 module _ (book : List ℕ) where
   field-run :
       (at p : ℕ) (stage : Stage) (bytes : List ℕ) (items : List Item) (s : Session) (t : List ℕ) {r : Reply}
-      {t′ : List ℕ} → at ≤ p
-      → Onward book p items s t r t′ → Onward book at (Item.head p stage bytes ∷ items) s t r t′
+      {t′ : List ℕ} → at ≤ 2 * p
+      → Onward book (suc (2 * p)) items s t r t′ → Onward book at (Item.head p stage bytes ∷ items) s t r t′
   field-run at p stage bytes items s t {r} {t′} h (le, f) = (λ ne. omega (arith, le ne), go f)
     where
       go : Followed book items s t r t′ → Followed book (Item.head p stage bytes ∷ items) s t r t′
@@ -287,12 +295,12 @@ module _ (book : List ℕ) where
       go (Followed.some z run stop) =
           Followed.some z
           (subst (λ (l : List Made). Run s t l (r .session) t′) (sym (field-calls p stage bytes (r .place) items)) run)
-          stop
+          (stopped-later (Item.head p stage bytes) stop)
 
   fact-run :
       (at p : ℕ) (kind : Kind) (a b v : ℕ) (items : List Item) (s : Session) (t : List ℕ) {q r : Reply} {u t′ : List ℕ}
-      → at ≤ p
-      → Owed (tell kind s t (factOf a b v)) (q, u) → q .number ≡ 0 → Onward book (suc p) items (q .session) u r t′
+      → at ≤ 2 * p → Owed (tell kind s t (factOf a b v)) (q, u) → q .number ≡ 0
+      → Onward book (suc (2 * p)) items (q .session) u r t′
       → Onward book at (Item.said p kind a b v ∷ items) s t r t′
   fact-run at p kind a b v items s t {q} {r} {u} {t′} h told k (le, f) = (λ ne. omega (arith, le ne), go f)
     where
@@ -306,74 +314,77 @@ module _ (book : List ℕ) where
           (subst (λ (l : List Item). Run s t (callsSaid l) (r .session) t′)
           (sym (one-before item (r .place) items (omega (arith, le z))))
           (Run.call told k run))
-          stop
+          (stopped-later item stop)
 
   follows-run :
-      (at : ℕ) (items : List Item) (s : Session) (t : List ℕ) {r : Reply} {t′ : List ℕ} → PlacesRise at items
+      (at : ℕ) (items : List Item) (s : Session) (t : List ℕ) {r : Reply} {t′ : List ℕ} → Rises at items
       → Later book items → Stands s t → Follows items s t r t′ → Onward book at items s t r t′
   follows-run at [] s t rise l st h = rw (h .0, h .1) (λ z. absurd (z refl), Followed.all refl refl Run.stop)
   follows-run at (Item.begin p n ∷ items) s t rise l st h = absurd l
   follows-run at (Item.head p stage bytes ∷ items) s t rise l st (k, first, inl (ne, e)) = (
     λ _. rw (e .0) (rise .0),
     stops-here book k p (Item.head p stage bytes ∷ items) (omega arith, rise .1) ne
-        (Stopped.at-field (l .2) (rw (← l .0, ← l .1) first)) e,
+        (Stopped.at-field (rw (← l .0, ← l .1) (List·Memᴰ·head refl)) (l .2)
+        (rw (← l .0, ← l .1) first)) e,
   )
   follows-run at (Item.head p stage bytes ∷ items) s t rise l st (k, first, inr (z, later)) =
       field-run at p stage bytes items s t (rise .0)
-      (follows-run p items s t (rise .1) (l .3 (subst (First (fieldRefusals stage bytes)) z first)) st later)
-  follows-run at (Item.said p kind a b v ∷ items) s t rise l st (k, first, inl (ne, e)) =
-      let bad = verdict-refused first ne in (
-        λ _. rw (e .0) (rise .0),
-        stops-here book k p (Item.said p kind a b v ∷ items) (omega arith, rise .1) ne
-            (Stopped.at-verdict (l .0) (bad .0) (bad .1)) e,
-      )
+      (follows-run (suc (2 * p)) items s t (rise .1) (l .3 (rw z at first)) st later)
+  follows-run at (Item.said p kind a b v ∷ items) s t rise l st (k, first, inl (ne, e)) = (
+    λ _. rw (e .0) (rise .0),
+    stops-here book k p (Item.said p kind a b v ∷ items) (omega arith, rise .1) ne
+        (Stopped.at-fact (List·Memᴰ·head refl) (l .0) (inl (verdict-refused first ne))) e,
+  )
   follows-run at (Item.said p kind a b v ∷ items) s t rise l st (k, first, inr (z, (q, u, told, inl (ne, e)))) =
       let kept = changes-kept told ne in (
         λ _. rw (e .0) (rise .0),
         stops-here book (q .number) p (Item.said p kind a b v ∷ items) (omega arith, rise .1) ne
-            (Stopped.at-fact (l .0) (verdict-right first z) (fact-number (tell-numbers kind st told)))
+            (Stopped.at-fact (List·Memᴰ·head refl) (l .0)
+            (inr (verdict-right first z, stands-first (tellRefusals s t (factOf a b v)) st (told .number))))
             (rw (kept .0, kept .1) at e),
       )
-    where
-      fact-number : (q .number ≡ 0) ⊎ (q .number ≡ 5) ⊎ (q .number ≡ 6) → (q .number ≡ 5) ⊎ (q .number ≡ 6)
-      fact-number (inl e) = absurd (ne e)
-      fact-number (inr e) = e
   follows-run at (Item.said p kind a b v ∷ items) s t rise l st (k, first, inr (z, (q, u, told, inr (y, later)))) =
       fact-run at p kind a b v items s t (rise .0) told y
-      (follows-run (suc p) items (q .session) u (rise .1) (l .1) (leaves-keeps (tell-leaves kind told y) st) later)
+      (follows-run (suc (2 * p)) items (q .session) u (rise .1) (l .1)
+      (leaves-keeps (tell-leaves kind told y) st) later)
+
+-- Why no class count was accepted: the first field is refused, or it is not and fresh refuses the class count.
+pub data NoCount (book t : List ℕ) (number : ℕ) : Type 0 where
+  at-field : First (fieldRefusals Start book) number → NoCount book t number
+  at-count :
+      First (fieldRefusals Start book) 0 → First (freshRefusals (getD book 3 0) t) number → NoCount book t number
 
 -- What a reading comes to. No class count was accepted, and table and session show it; or a run from fresh for the
 -- book's class count, with all the facts said, in order; or with those before the place.
 pub data ReadAs (book t : List ℕ) (r : Reply) (t′ : List ℕ) : Type 0 where
   not-begun :
-      r .place ≡ 0 → r .session ≡ noSession → t′ ≡ t
-      → ((1 ≤ r .number) × (r .number ≤ 2)) ⊎ ((10 ≤ r .number) × (r .number ≤ 13)) → ReadAs book t r t′
+      r .number ≢ 0 → r .place ≡ 0 → r .session ≡ noSession → t′ ≡ t → NoCount book t (r .number) → ReadAs book t r t′
   whole :
-      r .number ≡ 0 → r .place ≡ 0 → FromFresh (getD book 3 0) t (callsSaid (itemsOf book)) (r .session) t′
-      → ReadAs book t r t′
+      r .number ≡ 0 → r .place ≡ 0 → First (fieldRefusals Start book) 0
+      → FromFresh (getD book 3 0) t (callsSaid (itemsOf book)) (r .session) t′ → ReadAs book t r t′
   cut :
-      r .number ≢ 0
+      r .number ≢ 0 → First (fieldRefusals Start book) 0
       → FromFresh (getD book 3 0) t (callsSaid (itemsBefore (r .place) (itemsOf book))) (r .session) t′
-      → Stopped book (r .number) (r .place) → ReadAs book t r t′
+      → Stopped book (itemsOf book) (r .number) (r .place) (r .session) t′ → ReadAs book t r t′
 
 pub read-run : {book t : List ℕ} {r : Reply} {t′ : List ℕ} → BookRead book t r t′ → ReadAs book t r t′
 read-run {book} {t} {r} {t′} h = go (itemsOf book) (items-whole book) (h .followed) refl
   where
-    -- behind the first field
+    -- behind the first field, which is right
     counted :
-        (p₀ : ℕ) (stage : Stage) (bytes : List ℕ) (items : List Item) → CountFirst book items
-        → Follows items noSession t r t′
+        (p₀ : ℕ) (stage : Stage) (bytes : List ℕ) (items : List Item) → First (fieldRefusals Start book) 0
+        → CountFirst book items → Follows items noSession t r t′
         → itemsOf book ≡ Item.head p₀ stage bytes ∷ items → ReadAs book t r t′
-    counted p₀ stage bytes [] c f e = absurd c
-    counted p₀ stage bytes (Item.head p st b ∷ items) c f e = absurd c
-    counted p₀ stage bytes (Item.said p kind a b v ∷ items) c f e = absurd c
-    counted p₀ stage bytes (Item.begin p n ∷ items) c (q, u, begun, inl (k, x)) e =
+    counted p₀ stage bytes [] right c f e = absurd c
+    counted p₀ stage bytes (Item.head p st b ∷ items) right c f e = absurd c
+    counted p₀ stage bytes (Item.said p kind a b v ∷ items) right c f e = absurd c
+    counted p₀ stage bytes (Item.begin p n ∷ items) right c (q, u, begun, inl (k, x)) e =
         let kept = changes-kept begun k in
         rw (x .0)
-        (ReadAs.not-begun (c .0) (kept .0) (x .1 ∙ kept .1) (inl (omega arith, fresh-numbers begun)))
-    counted p₀ stage bytes (Item.begin p n ∷ items) c (q, u, begun, inr (k, x)) e =
+        (ReadAs.not-begun k (c .0) (kept .0) (x .1 ∙ kept .1) (NoCount.at-count right (rw (c .1) at (begun .number))))
+    counted p₀ stage bytes (Item.begin p n ∷ items) right c (q, u, begun, inr (k, x)) e =
         let stands = stands-of (fresh-stands begun k) in
-        came (follows-run book 1 items (q .session) u (c .2) (c .3) stands x .1)
+        came (follows-run book 2 items (q .session) u (c .2) (c .3) stands x .1)
       where
         from-fresh :
             {calls : List Made} → Run (q .session) u calls (r .session) t′
@@ -381,16 +392,17 @@ read-run {book} {t} {r} {t′} h = go (itemsOf book) (items-whole book) (h .foll
         from-fresh run = record { reply = q; table = u; began = rw (c .1) at begun; accepted = k; run = run }
 
         came : Followed book items (q .session) u r t′ → ReadAs book t r t′
-        came (Followed.all z place run) = ReadAs.whole z place (from-fresh (rw e run))
+        came (Followed.all z place run) = ReadAs.whole z place right (from-fresh (rw e run))
         came (Followed.some z run stop) =
-            ReadAs.cut z
+            ReadAs.cut z right
             (from-fresh
             (subst (λ (l : List Made). Run (q .session) u l (r .session) t′)
             (sym
             (ap (λ (l : List Item). callsSaid (itemsBefore (r .place) l)) e
             ∙ field-calls p₀ stage bytes (r .place) (Item.begin p n ∷ items) ∙ count-calls p n (r .place) items))
             run))
-            stop
+            (subst (λ (l : List Item). Stopped book l (r .number) (r .place) (r .session) t′) (sym e)
+            (stopped-later (Item.head p₀ stage bytes) (stopped-later (Item.begin p n) stop)))
 
     go : (items : List Item) → Whole book items → Follows items noSession t r t′ → itemsOf book ≡ items
         → ReadAs book t r t′
@@ -398,41 +410,7 @@ read-run {book} {t} {r} {t′} h = go (itemsOf book) (items-whole book) (h .foll
     go (Item.begin p n ∷ items) w f e = absurd w
     go (Item.said p kind a b v ∷ items) w f e = absurd w
     go (Item.head p stage bytes ∷ items) w (k, first, inl (ne, x)) e =
-        rw (x .0) (ReadAs.not-begun (w .0) refl (x .1) (inr (field-numbers stage bytes k first ne)))
+        rw (x .0) (ReadAs.not-begun ne (w .0) refl (x .1) (NoCount.at-field (rw (w .1, w .2) at first)))
     go (Item.head p stage bytes ∷ items) w (k, first, inr (z, later)) e =
-        counted p stage bytes items (w .3 (subst (First (fieldRefusals stage bytes)) z first)) later e
-
--- "Numbers 3 and 4 can't come up in reading."
-pub read-numbers : {book t : List ℕ} {r : Reply} {t′ : List ℕ} → BookRead book t r t′
-    → (r .number ≢ 3) × (r .number ≢ 4)
-read-numbers {book} {t} {r} {t′} h = go (read-run h)
-  where
-    stopped : r .number ≢ 0 → Stopped book (r .number) (r .place) → (r .number ≢ 3) × (r .number ≢ 4)
-    stopped ne (Stopped.at-field {stage} q first) =
-        let n = field-numbers stage (drop (r .place) book) (r .number) first ne in (λ e. omega arith, λ e. omega arith)
-    stopped ne (Stopped.at-verdict q v e) = omega arith
-    stopped ne (Stopped.at-fact q v (inl e)) = omega arith
-    stopped ne (Stopped.at-fact q v (inr e)) = omega arith
-
-    go : ReadAs book t r t′ → (r .number ≢ 3) × (r .number ≢ 4)
-    go (ReadAs.not-begun p s u (inl e)) = omega arith
-    go (ReadAs.not-begun p s u (inr e)) = omega arith
-    go (ReadAs.whole e p run) = omega arith
-    go (ReadAs.cut e run stop) = stopped e stop
-
--- a place never exceeds the book's length
-pub read-place : {book t : List ℕ} {r : Reply} {t′ : List ℕ} → BookRead book t r t′ → r .place ≤ length book
-read-place {book} {t} {r} {t′} h = go (read-run h)
-  where
-    said : {p a b v : ℕ} {kind : Kind} → SaidAt book p kind a b v → p ≤ length book
-    said s = omega (arith, s .to, ends-within book (s .field) Begun (s .right))
-
-    stopped : Stopped book (r .number) (r .place) → r .place ≤ length book
-    stopped (Stopped.at-field q first) = field-within q
-    stopped (Stopped.at-verdict s v e) = said s
-    stopped (Stopped.at-fact s v e) = said s
-
-    go : ReadAs book t r t′ → r .place ≤ length book
-    go (ReadAs.not-begun p s u e) = omega arith
-    go (ReadAs.whole e p run) = omega arith
-    go (ReadAs.cut e run stop) = stopped stop
+        let right = rw z at first in
+        counted p stage bytes items (rw (w .1, w .2) at right) (w .3 right) later e

@@ -23,10 +23,10 @@ pub data Input : Type 0 where
   clip : (s : Session) (t : List ℕ) (played : List Bool) → Input
   clipBytes : (s : Session) (t bytes : List ℕ) → Input
   next nextForC openPairs openPairsForC : (s : Session) (t : List ℕ) → Input
-  hierarchy : (s : Session) (t heads steps : List ℕ) → Input
+  hierarchy hierarchyForC : (s : Session) (t heads steps : List ℕ) → Input
   ladder ladderForC : (s : Session) (t : List ℕ) (a b : ℕ) (out : List ℕ) → Input
   read : (book t : List ℕ) → Input
-  write : (s : Session) (t out : List ℕ) → Input
+  write writeForC : (s : Session) (t out : List ℕ) → Input
 
 -- all that comes out
 abbrev pub Outcome : Input → Type 0
@@ -39,10 +39,12 @@ Outcome (Input.nextForC s t) = CrossedQuestion
 Outcome (Input.openPairs s t) = Counted
 Outcome (Input.openPairsForC s t) = CrossedCount
 Outcome (Input.hierarchy s t heads steps) = Counted × (List ℕ × List ℕ)
+Outcome (Input.hierarchyForC s t heads steps) = CrossedCount × (List ℕ × List ℕ)
 Outcome (Input.ladder s t a b out) = Counted × List ℕ
 Outcome (Input.ladderForC s t a b out) = CrossedCount × List ℕ
 Outcome (Input.read book t) = Reply × List ℕ
 Outcome (Input.write s t out) = Counted × List ℕ
+Outcome (Input.writeForC s t out) = CrossedCount × List ℕ
 
 -- a row of the table
 pub record Row : Type 0 where
@@ -183,23 +185,26 @@ pub data Mark : Type 0 where
   fresh-no-class fresh-129-classes fresh-short-table next-no-class next-short-table next-not-sound next-no-mark : Mark
   next-not-sound-first next-overcounted next-all-tested open-no-class open-short-table open-not-sound : Mark
   open-overcounted tell-129-classes tell-overcounted-first tell-lower-beyond tell-upper-beyond : Mark
+  tell-contradicts-beyond : Mark
   hierarchy-short-steps hierarchy-short-heads hierarchy-open-first hierarchy-open ladder-short ladder-fits : Mark
-  ladder-equal ladder-beyond-first ladder-open-first ladder-open write-short write-one-class : Mark
+  ladder-equal ladder-beyond-first ladder-upper-beyond ladder-open-first ladder-open-short ladder-open : Mark
+  write-short write-one-class write-open : Mark
   example-read example-cut-read example-cut-open example-cut-asks : Mark
   book-empty book-cut-head book-cut-head-first book-unknown-tag book-tag-zero book-misplaced : Mark
   book-misplaced-first book-two-counts book-length-first book-no-count book-cut-contents book-no-class : Mark
   book-129-classes book-short-table : Mark
   book-count-alone later-cut-head later-cut-length later-unknown-tag later-tag-zero later-tag-five : Mark
-  later-second-count later-yes-length later-no-length later-answers-length later-cut-contents later-verdict : Mark
-  later-verdict-first later-class-beyond later-second-verdict later-contradicts later-far : Mark
+  later-second-count later-yes-length later-no-length later-answers-length later-cut-contents later-long-length : Mark
+  later-verdict later-verdict-first later-class-beyond later-second-verdict later-contradicts later-far : Mark
   book-no-answers book-answers : Mark
   clip-of-two clip-of-second clip-of-one clip-rest-kept : Mark
   clip-of-none clip-of-all : Mark
   clip-first-contradicts clip-later-contradicts : Mark
   clip-beyond clip-beyond-first clip-overcounted-first clip-not-sound-first clip-short-table clip-129-classes : Mark
-  bytes-of-two bytes-more-flags bytes-too-few bytes-too-many bytes-beyond bytes-contradict : Mark
+  bytes-of-two bytes-more-flags bytes-too-few bytes-most-flags bytes-too-many bytes-beyond bytes-contradict : Mark
   bytes-overcounted-first : Mark
-  C-asks C-done C-next-refused C-open C-open-refused C-ladder C-ladder-refused : Mark
+  C-asks C-done C-next-refused C-open C-open-refused C-hierarchy C-hierarchy-refused C-ladder : Mark
+  C-ladder-refused C-write C-write-refused : Mark
 
 abbrev pub row : Mark → Row
 -- P1
@@ -271,7 +276,8 @@ row Mark.tell-129-classes =
     Input.tell Kind.told (sessionOf 129 5) [] (under 0 0) gives (replied 1 0 (sessionOf 129 5), [])
 row Mark.tell-overcounted-first = Input.tell Kind.told (three 1) p2 (under 0 3) gives (replied 4 0 (three 1), p2)
 row Mark.tell-lower-beyond = Input.tell Kind.told (three 0) p2 (under 3 0) gives (replied 5 0 (three 0), p2)
-row Mark.tell-upper-beyond = Input.tell Kind.told (three 0) p4 (under 0 5) gives (replied 5 0 (three 0), p4)
+row Mark.tell-upper-beyond = Input.tell Kind.told (three 0) p2 (under 0 3) gives (replied 5 0 (three 0), p2)
+row Mark.tell-contradicts-beyond = Input.tell Kind.told (three 0) p4 (under 0 5) gives (replied 5 0 (three 0), p4)
 -- buffers that just fit, and one byte less; the order of refusals
 row Mark.hierarchy-short-steps = Input.hierarchy four p11 (nines 4) (nines 7) gives (Refused 8 0, (nines 4, nines 7))
 row Mark.hierarchy-short-heads = Input.hierarchy four p11 (nines 3) (nines 8) gives (Refused 8 0, (nines 3, nines 8))
@@ -282,11 +288,17 @@ row Mark.ladder-short = Input.ladder four p11 0 3 (nines 2) gives (Refused 8 0, 
 row Mark.ladder-fits = Input.ladder four p11 0 2 (nines 2) gives (Count 2, 0 ∷ 2 ∷ [])
 row Mark.ladder-equal = Input.ladder (three 0) p8 2 1 (nines 2) gives (Count 1, 1 ∷ 9 ∷ [])
 row Mark.ladder-beyond-first = Input.ladder (three 0) p7 3 0 [] gives (Refused 5 0, [])
+row Mark.ladder-upper-beyond = Input.ladder (three 0) p8 0 3 (nines 3) gives (Refused 5 0, nines 3)
 row Mark.ladder-open-first = Input.ladder (three 0) p7 2 0 [] gives (Refused 7 0, [])
+row Mark.ladder-open-short = Input.ladder (three 0) p7 0 1 [] gives (Refused 7 0, [])
 row Mark.ladder-open = Input.ladder (started 2) oneOpen 0 0 (nines 2) gives (Refused 7 0, nines 2)
 row Mark.write-short = Input.write (three 0) p8 (nines 21) gives (Refused 8 0, nines 21)
 row Mark.write-one-class =
     Input.write (started 1) (1 ∷ []) (nines 11) gives (Count 10, 1 ∷ 0 ∷ 1 ∷ 1 ∷ 2 ∷ 0 ∷ 0 ∷ 3 ∷ 0 ∷ 0 ∷ 9 ∷ [])
+-- pairs that are open are no refusal, and not in the book
+row Mark.write-open =
+    Input.write (three 0) p7 (nines 19)
+    gives (Count 18, 1 ∷ 0 ∷ 1 ∷ 3 ∷ 2 ∷ 0 ∷ 6 ∷ 0 ∷ 1 ∷ 0 ∷ 2 ∷ 1 ∷ 2 ∷ 3 ∷ 0 ∷ 2 ∷ 2 ∷ 0 ∷ 9 ∷ [])
 -- 01's printed example, whole and without its last six bytes
 row Mark.example-read = book example gives (replied 0 0 (three 1), p8)
 row Mark.example-cut-read = bookOfThree (2 ∷ 0 ∷ 6 ∷ 0 ∷ 1 ∷ 1 ∷ 2 ∷ 2 ∷ 1 ∷ []) gives (replied 0 0 (three 0), printed)
@@ -319,6 +331,7 @@ row Mark.later-yes-length = bookOfThree (2 ∷ 0 ∷ 5 ∷ 0 ∷ []) gives (repl
 row Mark.later-no-length = bookOfThree (3 ∷ 0 ∷ 1 ∷ 0 ∷ []) gives (replied 13 4 (three 0), p2)
 row Mark.later-answers-length = bookOfThree (4 ∷ 0 ∷ 2 ∷ 0 ∷ 1 ∷ []) gives (replied 13 4 (three 0), p2)
 row Mark.later-cut-contents = bookOfThree (2 ∷ 0 ∷ 4 ∷ 0 ∷ 1 ∷ 1 ∷ []) gives (replied 10 4 (three 0), p2)
+row Mark.later-long-length = bookOfThree (2 ∷ 1 ∷ 0 ∷ []) gives (replied 10 4 (three 0), p2)
 row Mark.later-verdict = bookOfThree (4 ∷ 0 ∷ 3 ∷ 1 ∷ 0 ∷ 2 ∷ []) gives (replied 14 7 (three 0), p2)
 row Mark.later-verdict-first = bookOfThree (4 ∷ 0 ∷ 3 ∷ 3 ∷ 0 ∷ 2 ∷ []) gives (replied 14 7 (three 0), p2)
 row Mark.later-class-beyond = bookOfThree (4 ∷ 0 ∷ 6 ∷ 3 ∷ 0 ∷ 1 ∷ 0 ∷ 1 ∷ 2 ∷ []) gives (replied 5 7 (three 0), p2)
@@ -360,6 +373,7 @@ row Mark.clip-129-classes = Input.clip (started 129) [] (true ∷ []) gives (rep
 row Mark.bytes-of-two = Input.clipBytes (three 0) afterYes (1 ∷ 7 ∷ 0 ∷ []) gives (replied 0 0 (three 0), p4)
 row Mark.bytes-more-flags = Input.clipBytes (three 0) afterYes (1 ∷ 7 ∷ 0 ∷ 0 ∷ []) gives (replied 0 0 (three 0), p4)
 row Mark.bytes-too-few = Input.clipBytes (three 0) afterYes (1 ∷ 1 ∷ []) gives (replied 5 0 (three 0), afterYes)
+row Mark.bytes-most-flags = Input.clipBytes (three 0) afterYes (1 ∷ 1 ∷ times 126 0) gives (replied 0 0 (three 0), p4)
 row Mark.bytes-too-many =
     Input.clipBytes (three 0) afterYes (1 ∷ 1 ∷ times 127 0) gives (replied 5 0 (three 0), afterYes)
 row Mark.bytes-beyond = Input.clipBytes (three 0) afterYes (1 ∷ 1 ∷ 0 ∷ 1 ∷ []) gives (replied 5 0 (three 0), afterYes)
@@ -371,5 +385,11 @@ row Mark.C-done = Input.nextForC (three 0) p8 gives askedForC 0 0 false 0 0
 row Mark.C-next-refused = Input.nextForC (three 1) p2 gives askedForC 4 0 false 0 0
 row Mark.C-open = Input.openPairsForC (three 0) p7 gives countedForC 0 0 2
 row Mark.C-open-refused = Input.openPairsForC (three 0) unsound gives countedForC 3 0 0
+row Mark.C-hierarchy =
+    Input.hierarchyForC (three 0) p8 (nines 4) (nines 3) gives (countedForC 0 0 1, (0 ∷ 1 ∷ 1 ∷ 9 ∷ [], 0 ∷ 1 ∷ 9 ∷ []))
+row Mark.C-hierarchy-refused =
+    Input.hierarchyForC four p11 (nines 4) (nines 7) gives (countedForC 8 0 0, (nines 4, nines 7))
 row Mark.C-ladder = Input.ladderForC four p11 0 3 (nines 4) gives (countedForC 0 0 3, 0 ∷ 1 ∷ 3 ∷ 9 ∷ [])
 row Mark.C-ladder-refused = Input.ladderForC four p11 0 3 (nines 2) gives (countedForC 8 0 0, nines 2)
+row Mark.C-write = Input.writeForC (three 0) p8 (nines 22) gives (countedForC 0 0 22, p12)
+row Mark.C-write-refused = Input.writeForC (three 0) p8 (nines 21) gives (countedForC 8 0 0, nines 21)

@@ -161,7 +161,8 @@ row-first tag (RowIs.facts {width} h) stage len room {k} f =
     cut : List Condition
     cut = cutShort (room < len) ∷ []
 
--- the refusal of a field is the first of those that document 01 gives for its bytes
+-- "an empty one gives 12; a field gives 10 (head bytes), 11, 12, 13, 10 (contents)": the refusal of a field is the
+-- first of those that document 01 gives for its bytes
 pub field-first : (stage : Stage) (bytes : List ℕ) (k : ℕ) → First (fieldRefusals stage bytes) k
     → First (inWords stage bytes) k
 field-first stage bytes k (inl h) = inl h
@@ -236,7 +237,7 @@ field-right stage bytes (inr (some, inr (head, h))) =
     let r = row-right (getD bytes 0 0) (row-is (getD bytes 0 0)) stage (lengthOf bytes) (length bytes - 3) h in
     (r .0, omega (arith, r .1))
 
--- "10 (head bytes), 11, 12, 13, 10 (contents)"
+-- a field is refused with a number from 10 to 13
 pub field-numbers : (stage : Stage) (bytes : List ℕ) (k : ℕ) → First (fieldRefusals stage bytes) k → k ≢ 0
     → (10 ≤ k) × (k ≤ 13)
 field-numbers stage bytes k f ne = go (field-first stage bytes k f)

@@ -1,7 +1,7 @@
 -- Tell and answer: one outcome for each input, and what an accepted or refused fact does.
 -- Assumes nothing.
 use mathlib.Core.Path.{_≡_, refl, sym, _∙_, ap}
-use mathlib.Core.Logic.{_↔_, _≢_, _⊎_, inl, inr}
+use mathlib.Core.Logic.{_↔_, _≢_, inl, inr}
 use mathlib.Core.List.{List}
 use Prim.Native.Nat.{ℕ, zero, suc, _+_, _*_, _≤_}
 use native.Mathlib.Decide.{ℕ-discrete, decLe}
@@ -158,18 +158,6 @@ tell-leaves kind {s = s} {t = t} {f = f} h e =
       size = h .done e .rest .size;
       count = omega (arith, o .1, o .2);
     }
-
--- the refusals of a fact where none of 1 to 4 is due
-pub tell-numbers :
-    (kind : Kind) {s : Session} {t : List ℕ} {f : Fact} {r : Reply} {t′ : List ℕ} → Stands s t
-    → Owed (tell kind s t f) (r, t′)
-    → (r .number ≡ 0) ⊎ (r .number ≡ 5) ⊎ (r .number ≡ 6)
-tell-numbers kind {s} {t} {f} {r} st h = go (stands-first (tellRefusals s t f) st (h .number))
-  where
-    go : First (tellRefusals s t f) (r .number) → (r .number ≡ 0) ⊎ (r .number ≡ 5) ⊎ (r .number ≡ 6)
-    go (inl (_, e)) = inr (inl e)
-    go (inr (_, inl (_, e))) = inr (inr e)
-    go (inr (_, inr (_, e))) = inl e
 
 -- "A fact on two classes below the count is refused as contradictory exactly when no order agrees with it and those
 -- accepted before", and it is refused for no other reason

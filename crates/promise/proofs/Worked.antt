@@ -13,7 +13,7 @@ use Rattle.promise.specs.Calls.{Owed, openPairs, countForC, writesForC}
 use Rattle.promise.specs.Tell.{fresh, tell}
 use Rattle.promise.specs.Clips.{clip, clipBytes}
 use Rattle.promise.specs.Next.{next, nextForC}
-use Rattle.promise.specs.Hierarchy.{hierarchy, ladder}
+use Rattle.promise.specs.Hierarchy.{hierarchy, ladder, Above, Number}
 use Rattle.promise.specs.Book.{rowOf, factsFrom, itemsFrom, BookRead, write}
 use Rattle.promise.proofs.Flags.{set?, flagged?}
 use Rattle.promise.proofs.Standing.{standing-there}
@@ -24,6 +24,7 @@ use Rattle.promise.proofs.Clips.{beyond?, clip-contradicts?, clipped-no
 use Rattle.promise.proofs.Next.{first-of, next-there}
 use Rattle.promise.proofs.Counts.{too-short?, writes-there, open-pairs-there}
 use Rattle.promise.proofs.Crossing.{next-for-C-there, open-pairs-for-C-there, writes-for-C-there}
+use Rattle.promise.proofs.Crossing.{hierarchy-for-C-there, ladder-for-C-there, write-for-C-there}
 use Rattle.promise.proofs.Hierarchy.{under?, equal?, head-of?, head?, third?, direct?, head-there, list-there}
 use Rattle.promise.proofs.Hierarchy.{heads-there, hierarchy-there}
 use Rattle.promise.proofs.Ladder.{number-there, above?, to-go, between, direct-there, rung-there, rungs-there}
@@ -31,7 +32,7 @@ use Rattle.promise.proofs.Ladder.{ladder-there, ladder-made, ladder-wri
 use Rattle.promise.proofs.Tags.{row-there, field-there}
 use Rattle.promise.proofs.Read.{goes-there, verdict-there, made-there, follows-there, read-there}
 use Rattle.promise.proofs.Write.{off?, book-there, write-there}
-use Rattle.promise.proofs.Table.{Input, Outcome, Row, Mark, row}
+use Rattle.promise.proofs.Table.{Input, Outcome, Row, Mark, row, p8, p11}
 
 -- an outcome that a call owes
 abbrev pub Owes : (i : Input) → Outcome i → Type 0
@@ -44,10 +45,12 @@ Owes (Input.nextForC s t) = Owed (nextForC s t)
 Owes (Input.openPairs s t) = Owed (openPairs s t)
 Owes (Input.openPairsForC s t) = Owed (countForC (openPairs s t))
 Owes (Input.hierarchy s t heads steps) = Owed (hierarchy s t heads steps)
+Owes (Input.hierarchyForC s t heads steps) = Owed (writesForC (hierarchy s t heads steps))
 Owes (Input.ladder s t a b out) = Owed (ladder s t a b out)
 Owes (Input.ladderForC s t a b out) = Owed (writesForC (ladder s t a b out))
 Owes (Input.read book t) = λ o. BookRead book t (o .0) (o .1)
 Owes (Input.write s t out) = Owed (write s t out)
+Owes (Input.writeForC s t out) = Owed (writesForC (write s t out))
 
 abbrev pub Meets : Row → Type 0
 Meets row = Owes (row .input) (row .outcome)
@@ -63,11 +66,12 @@ there (Input.nextForC s t) = next-for-C-there s t
 there (Input.openPairs s t) = open-pairs-there s t
 there (Input.openPairsForC s t) = open-pairs-for-C-there s t
 there (Input.hierarchy s t heads steps) = hierarchy-there s t heads steps
+there (Input.hierarchyForC s t heads steps) = hierarchy-for-C-there s t heads steps
 there (Input.ladder s t a b out) = ladder-written-there s t a b out
-there (Input.ladderForC s t a b out) =
-    writes-for-C-there (ladder s t a b out) (λ o. refl) (ladder-written-there s t a b out)
+there (Input.ladderForC s t a b out) = ladder-for-C-there s t a b out
 there (Input.read book t) = let q = read-there book t in ((q .0, q .1), q .2)
 there (Input.write s t out) = write-there s t out
+there (Input.writeForC s t out) = write-for-C-there s t out
 
 -- it is the outcome that the row has
 computed : (m : Mark) → there (row m .input) .0 ≡ row m .outcome
@@ -79,7 +83,7 @@ unfolding mark opensTo decLt decLe ℕ-discrete both either implies negated as-w
     heads-there too-short? hierarchy-there number-there above? to-go between direct-there rung-there rungs-there
     ladder-there ladder-made writes-there ladder-written-there writes-for-C-there rowOf factsFrom itemsFrom
     row-there field-there goes-there verdict-there made-there follows-there read-there off? book-there
-    write-there
+    write-there hierarchy-for-C-there ladder-for-C-there write-for-C-there
 computed Mark.P1-fresh = refl
 computed Mark.P1-done = refl
 computed Mark.P2-fresh = refl
@@ -130,6 +134,7 @@ computed Mark.tell-129-classes = refl
 computed Mark.tell-overcounted-first = refl
 computed Mark.tell-lower-beyond = refl
 computed Mark.tell-upper-beyond = refl
+computed Mark.tell-contradicts-beyond = refl
 computed Mark.hierarchy-short-steps = refl
 computed Mark.hierarchy-short-heads = refl
 computed Mark.hierarchy-open-first = refl
@@ -138,10 +143,13 @@ computed Mark.ladder-short = refl
 computed Mark.ladder-fits = refl
 computed Mark.ladder-equal = refl
 computed Mark.ladder-beyond-first = refl
+computed Mark.ladder-upper-beyond = refl
 computed Mark.ladder-open-first = refl
+computed Mark.ladder-open-short = refl
 computed Mark.ladder-open = refl
 computed Mark.write-short = refl
 computed Mark.write-one-class = refl
+computed Mark.write-open = refl
 computed Mark.example-read = refl
 computed Mark.example-cut-read = refl
 computed Mark.example-cut-open = refl
@@ -171,6 +179,7 @@ computed Mark.later-yes-length = refl
 computed Mark.later-no-length = refl
 computed Mark.later-answers-length = refl
 computed Mark.later-cut-contents = refl
+computed Mark.later-long-length = refl
 computed Mark.later-verdict = refl
 computed Mark.later-verdict-first = refl
 computed Mark.later-class-beyond = refl
@@ -196,6 +205,7 @@ computed Mark.clip-129-classes = refl
 computed Mark.bytes-of-two = refl
 computed Mark.bytes-more-flags = refl
 computed Mark.bytes-too-few = refl
+computed Mark.bytes-most-flags = refl
 computed Mark.bytes-too-many = refl
 computed Mark.bytes-beyond = refl
 computed Mark.bytes-contradict = refl
@@ -205,9 +215,20 @@ computed Mark.C-done = refl
 computed Mark.C-next-refused = refl
 computed Mark.C-open = refl
 computed Mark.C-open-refused = refl
+computed Mark.C-hierarchy = refl
+computed Mark.C-hierarchy-refused = refl
 computed Mark.C-ladder = refl
 computed Mark.C-ladder-refused = refl
+computed Mark.C-write = refl
+computed Mark.C-write-refused = refl
 
 -- P1 to P12, and the other worked marks that say something of the definitions
 pub met : (m : Mark) → Meets (row m)
 met m = subst (Owes (row m .input)) (computed m) (there (row m .input) .1)
+
+-- "the number of heads strictly above the rung and under the goal": of P8's table from 0 on to 1 it is 1, though 2 is
+-- equal to 1; of P11's from 0 on to 1, though 2 and 3 are above 0 too, and from 1 on to 3, though 0 and 2 are under 3
+pub above-worked : Number (Above 3 p8 1 0) 3 1 × Number (Above 4 p11 1 0) 4 1 × Number (Above 4 p11 3 1) 4 1
+unfolding mark ℕ-discrete decLt decLe both negated implies as-well all-below under? equal? head-of? head? above?
+    number-there to-go
+above-worked = (to-go 3 p8 1 0 .1, to-go 4 p11 1 0 .1, to-go 4 p11 3 1 .1)

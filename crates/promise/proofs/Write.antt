@@ -81,12 +81,13 @@ module _ (s : Session) (t out : List ℕ) where
   pub write-unique : {o o₂ : Counted × List ℕ} → Owed (write s t out) o → Owed (write s t out) o₂ → o ≡ o₂
   write-unique = owed-unique (write s t out) write-fixed
 
-  room : First (writeRefusals s t out) 0 → ¬ TooShort (BookOf (s .classes) t) out
-  room (inl z) = absurd (omega (arith, z .1))
-  room (inr z) = z .0
+  -- what is known where a book is written
+  pub write-passed : First (writeRefusals s t out) 0 → ¬ TooShort (BookOf (s .classes) t) out
+  write-passed (inl z) = absurd (omega (arith, z .1))
+  write-passed (inr z) = z .0
 
   -- the length of the buffer stays
   pub write-length : {o : Counted × List ℕ} → Owed (write s t out) o → length (o .1) ≡ length out
   write-length =
       writes-length (standing s t (writeRefusals s t out)) (BookOf (s .classes) t) out (λ f.
-      room (standing-passed (writeRefusals s t out) s f .1))
+      write-passed (standing-passed (writeRefusals s t out) s f .1))

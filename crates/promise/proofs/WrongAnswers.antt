@@ -15,10 +15,12 @@ use Rattle.promise.specs.declared.Session.{Session}
 use Rattle.promise.specs.declared.Reply.{Reply}
 use Rattle.promise.specs.declared.Question.the-variants.{Ask, Done}
 use Rattle.promise.specs.declared.Counted.the-variants.{Count}
-use Rattle.promise.specs.Calls.{Call, Owed, countNumber, openPairs}
+use Rattle.promise.specs.declared.CrossedQuestion.{CrossedQuestion}
+use Rattle.promise.specs.declared.CrossedCount.{CrossedCount}
+use Rattle.promise.specs.Calls.{Call, Owed, countNumber, openPairs, countForC, writesForC}
 use Rattle.promise.specs.Tell.{Kind, fresh, tell}
 use Rattle.promise.specs.Clips.{ClipNo, clip, clipBytes}
-use Rattle.promise.specs.Next.{next}
+use Rattle.promise.specs.Next.{next, nextForC}
 use Rattle.promise.specs.Hierarchy.{hierarchy, ladder}
 use Rattle.promise.specs.Book.{BookRead, write}
 use Rattle.promise.proofs.Fresh.{fresh-unique}
@@ -30,8 +32,10 @@ use Rattle.promise.proofs.Hierarchy.{hierarchy-unique}
 use Rattle.promise.proofs.Ladder.{ladder-written-unique}
 use Rattle.promise.proofs.Read.{read-unique}
 use Rattle.promise.proofs.Write.{write-unique}
+use Rattle.promise.proofs.Crossing.{next-for-C-unique, open-pairs-for-C-unique, hierarchy-for-C-unique}
+use Rattle.promise.proofs.Crossing.{ladder-for-C-unique, write-for-C-unique}
 use Rattle.promise.proofs.Table.{Mark, p2, p3, p4, p7, p8, p11, p12, afterYes, oneUnderTwo, firstTwo, firstOne}
-use Rattle.promise.proofs.Table.{three, four, nines, example}
+use Rattle.promise.proofs.Table.{unsound, three, four, nines, example}
 use Rattle.promise.proofs.Worked.{met}
 
 -- A contract: what goes in, what comes out, what is owed, the refusal number, and that what is owed fixes the outcome.
@@ -301,3 +305,60 @@ pub write-rejects : Rejected writeContract (λ o. o .0) (λ i o. o .1 ≡ i .2)
 write-rejects =
     rejected writeContract (three 0, p8, nines 22) (three 0, p8, nines 21) (met Mark.P12-written) refl
     (λ e. omega (arith, ap (byte 0) e)) (met Mark.write-short) (λ e. omega (arith, ap countNumber e))
+
+-- The calls whose answers cross to C. One that never asks is idle, and so is one that always counts no open pair.
+
+abbrev numberForC : CrossedCount → ℕ
+numberForC r = r .number
+
+abbrev pub nextForCContract : Contract
+nextForCContract =
+    ofCall {I = Session × List ℕ} (λ i. nextForC (i .0) (i .1)) (λ i o o₂. next-for-C-unique (i .0) (i .1))
+
+pub next-for-C-rejects : Rejected nextForCContract (λ q. q) (λ i q. q .asks ≡ false)
+next-for-C-rejects =
+    rejected nextForCContract (three 0, p7) (three 0, p8) (met Mark.C-asks) refl yes-not-no (met Mark.C-done)
+    (λ e. yes-not-no (ap (λ (q : CrossedQuestion). q .asks) e))
+
+abbrev pub openPairsForCContract : Contract
+openPairsForCContract =
+    ofCall {I = Session × List ℕ} (λ i. countForC (openPairs (i .0) (i .1)))
+    (λ i o o₂. open-pairs-for-C-unique (i .0) (i .1))
+
+pub open-pairs-for-C-rejects : Rejected openPairsForCContract (λ r. r) (λ i r. r .count ≡ 0)
+open-pairs-for-C-rejects =
+    rejected openPairsForCContract (three 0, p7) (three 0, unsound) (met Mark.C-open) refl (λ e. omega arith)
+    (met Mark.C-open-refused) (λ e. omega (arith, ap numberForC e))
+
+abbrev pub hierarchyForCContract : Contract
+hierarchyForCContract =
+    ofCall {I = Session × List ℕ × List ℕ × List ℕ} (λ i. writesForC (hierarchy (i .0) (i .1) (i .2) (i .3)))
+    (λ i o o₂. hierarchy-for-C-unique (i .0) (i .1) (i .2) (i .3))
+
+pub hierarchy-for-C-rejects :
+    Rejected hierarchyForCContract (λ o. o .0) (λ i o. (o .1 .0 ≡ i .2) ⊎ (o .1 .1 ≡ i .3))
+hierarchy-for-C-rejects =
+    rejected hierarchyForCContract (three 0, p8, nines 4, nines 3) (four, p11, nines 4, nines 7) (met Mark.C-hierarchy)
+    refl (⊎-elim (λ e. omega (arith, ap (byte 0) e)) (λ e. omega (arith, ap (byte 0) e)))
+    (met Mark.C-hierarchy-refused)
+    (λ e. omega (arith, ap numberForC e))
+
+abbrev pub ladderForCContract : Contract
+ladderForCContract =
+    ofCall {I = Session × List ℕ × ℕ × ℕ × List ℕ} (λ i. writesForC (ladder (i .0) (i .1) (i .2) (i .3) (i .4)))
+    (λ i o o₂. ladder-for-C-unique (i .0) (i .1) (i .2) (i .3) (i .4))
+
+pub ladder-for-C-rejects : Rejected ladderForCContract (λ o. o .0) (λ i o. o .1 ≡ i .4)
+ladder-for-C-rejects =
+    rejected ladderForCContract (four, p11, 0, 3, nines 4) (four, p11, 0, 3, nines 2) (met Mark.C-ladder) refl
+    (λ e. omega (arith, ap (byte 0) e)) (met Mark.C-ladder-refused) (λ e. omega (arith, ap numberForC e))
+
+abbrev pub writeForCContract : Contract
+writeForCContract =
+    ofCall {I = Session × List ℕ × List ℕ} (λ i. writesForC (write (i .0) (i .1) (i .2)))
+    (λ i o o₂. write-for-C-unique (i .0) (i .1) (i .2))
+
+pub write-for-C-rejects : Rejected writeForCContract (λ o. o .0) (λ i o. o .1 ≡ i .2)
+write-for-C-rejects =
+    rejected writeForCContract (three 0, p8, nines 22) (three 0, p8, nines 21) (met Mark.C-write) refl
+    (λ e. omega (arith, ap (byte 0) e)) (met Mark.C-write-refused) (λ e. omega (arith, ap numberForC e))

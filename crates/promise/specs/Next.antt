@@ -2,10 +2,10 @@
 -- Assumes nothing.
 use mathlib.Core.Path.{_≡_}
 use mathlib.Core.Logic.{_≢_}
-use mathlib.Core.Bool.{Bool, true, false}
-use mathlib.Core.List.{List, []}
-use Prim.Native.Nat.{ℕ, suc, _<_}
-use Rattle.order.specs.Facts.{factOn}
+use mathlib.Core.Bool.{true, false}
+use mathlib.Core.List.{List, [], _∷_}
+use Prim.Native.Nat.{ℕ, _<_}
+use Rattle.order.specs.Facts.{Fact}
 use Rattle.order.specs.Tables.{mark, Before}
 use Rattle.promise.specs.declared.Session.{Session}
 use Rattle.promise.specs.declared.Reply.{Reply}
@@ -58,9 +58,10 @@ questionFor (Refused number place) = record { number = number; place = place; as
 abbrev pub nextForC : Session → List ℕ → Call CrossedQuestion
 nextForC s t = crossing questionFor (λ q. q .number) (next s t)
 
--- k rounds of "asking and answering the pair asked" lead from session s and table t to s′ and t′
-pub data Rounds : ℕ → Session → List ℕ → Session → List ℕ → Type 0 where
-  none : {s : Session} {t : List ℕ} → Rounds 0 s t s t
+-- rounds of "asking and answering the pair asked", with these answers, lead from session s and table t to s′ and t′
+pub data Rounds : List Fact → Session → List ℕ → Session → List ℕ → Type 0 where
+  none : {s : Session} {t : List ℕ} → Rounds [] s t s t
   round :
-      {k a b : ℕ} {v : Bool} {s s′ : Session} {t t₁ t′ : List ℕ} {r : Reply} → Owed (next s t) (Ask a b)
-      → Owed (tell Kind.answered s t (factOn a b v)) (r, t₁) → Rounds k (r .session) t₁ s′ t′ → Rounds (suc k) s t s′ t′
+      {f : Fact} {later : List Fact} {s s′ : Session} {t t₁ t′ : List ℕ} {r : Reply}
+      → Owed (next s t) (Ask (f .lower) (f .upper))
+      → Owed (tell Kind.answered s t f) (r, t₁) → Rounds later (r .session) t₁ s′ t′ → Rounds (f ∷ later) s t s′ t′

@@ -41,13 +41,6 @@ abbrev pub Said : ℕ → List Intake → Facts
 Said n [] f = ⊥
 Said n (c ∷ later) f = SaidBy n c f ⊎ Said n later f
 
--- the calls take in the facts of a list, the first first, each told or given as an answer
-pub data FactByFact : List Fact → List Intake → Type 0 where
-  none : FactByFact [] []
-  first :
-      {kind : Kind} {f : Fact} {l : List Fact} {later : List Intake} → FactByFact l later
-      → FactByFact (f ∷ l) (Intake.fact kind f ∷ later)
-
 -- every class that a call names is below n; and so for the calls of a list
 abbrev pub Fits : ℕ → Intake → Type 0
 Fits n (Intake.fact kind f) = Below n f

@@ -10,7 +10,7 @@ use Rattle.promise.specs.Refusals.{First, standing}
 use Rattle.promise.specs.Clips.{bytesRefusals, clipBytes}
 use Rattle.promise.proofs.Standing.{Stands, stood, standing-refused}
 use Rattle.promise.proofs.Calls.{owed-refused}
-use Rattle.promise.proofs.Clips.{clip-same-members, bytes-fit, bytes-misfit}
+use Rattle.promise.proofs.Clips.{clip-same-members, bytes-clip, bytes-misfit}
 use Rattle.clips.proofs.clip_bytes.Statement.{statement}
 use Rattle.clips.proofs.clip_bytes.Tie as tie
 
@@ -52,8 +52,7 @@ returns-4 c =
     let taken = c .before .before in
     let flagged = taken .before .before .before in
     let fitted = flagged .before in
-    let st = stands (fitted .before .before .before) in
-    bytes-fit _ _ _ st (record { enough = fitted .before .if2 .left; few = fitted .if3 .left })
+    bytes-clip (record { enough = fitted .before .if2 .left; few = fitted .if3 .left }) .1
     (clip-same-members _ _ (λ a. Iff·symm (flagged .flags-of .ensures .at a)) (taken .take-clip .ensures))
 
 pub clip-bytes-spec : {M : Type 1} → statement M
