@@ -156,28 +156,35 @@ fn class(marks: &Marks, number: u64) -> Result<usize, Refusal> {
 fn take(session: Session, table: &mut [u8], a: u64, b: u64, yes: bool) -> Result<Mark, Refusal> {
     let marks = given(session, table)?;
     let (a, b) = (class(&marks, a)?, class(&marks, b)?);
-    let fact = Fact { a, b, yes };
     let mut facts = Facts::of_marks(&marks);
-    Refusal::when(facts.contradicts(fact), 6)?;
-    facts.accept(fact);
+    take_fact(&mut facts, Fact { a, b, yes })?;
     facts.marks().put(table);
     Ok(marks.at(a, b))
 }
 
+/// Refusal 6: "the fact contradicts".
+fn take_fact(facts: &mut Facts, fact: Fact) -> Result<(), Refusal> {
+    Refusal::when(facts.contradicts(fact), 6)?;
+    facts.accept(fact);
+    Ok(())
+}
+
 /// "The same outcome as telling all those noes one by one, in any order, or
-/// nothing changed if one of them contradicts": they are told on a copy.
+/// nothing changed if one of them contradicts": they are added one by one to
+/// the table's own marks taken as facts, and the table is made at the end.
 fn take_clip(
     session: Session,
     table: &mut [u8],
     played: &[bool; MOST_CLASSES],
 ) -> Result<(), Refusal> {
-    let n = given(session, table)?.n();
+    let marks = given(session, table)?;
+    let n = marks.n();
     Refusal::when(played[n..].contains(&true), 5)?;
-    let mut copy = table.to_vec();
+    let mut facts = Facts::of_marks(&marks);
     for (a, b) in pairs(n).filter(|&(a, b)| played[a] && !played[b]) {
-        tell(session, &mut copy, a as u64, b as u64, false).0?;
+        take_fact(&mut facts, Fact { a, b, yes: false })?;
     }
-    table.copy_from_slice(&copy);
+    facts.marks().put(table);
     Ok(())
 }
 

@@ -27,6 +27,11 @@ impl Classes {
         Classes(self.0 | Classes::only(class).0)
     }
 
+    /// The classes of either set.
+    pub fn or(self, other: Classes) -> Classes {
+        Classes(self.0 | other.0)
+    }
+
     pub fn without(self, other: Classes) -> Classes {
         Classes(self.0 & !other.0)
     }
@@ -34,6 +39,11 @@ impl Classes {
     /// Whether the two sets have a class in common.
     pub fn meets(self, other: Classes) -> bool {
         self.0 & other.0 != 0
+    }
+
+    /// Whether the other set has all classes of this one.
+    pub fn within(self, other: Classes) -> bool {
+        self.without(other) == Classes::default()
     }
 
     /// The classes of the set in rising order.

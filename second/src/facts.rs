@@ -66,40 +66,61 @@ impl Facts {
     /// "(a, b) is yes exactly when a = b or a chain of yes facts leads from a
     /// to b."
     pub fn is_yes(&self, a: usize, b: usize) -> bool {
-        chained(&self.yes_up, a).has(b)
+        self.above(a).has(b)
+    }
+
+    /// Every b with (a, b) yes.
+    fn above(&self, a: usize) -> Classes {
+        chained(&self.yes_up, a)
     }
 
     /// "(a, b) is no exactly when there is a no fact (c, d) such that (c, a)
     /// is yes and (b, d) is yes."
     pub fn is_no(&self, a: usize, b: usize) -> bool {
-        let below_a = chained(&self.yes_down, a);
-        let above_b = chained(&self.yes_up, b);
-        below_a.members().any(|c| self.no_up[c].meets(above_b))
+        self.noes_under(a).meets(self.above(b))
+    }
+
+    /// Every d with a no fact (c, d) such that (c, a) is yes.
+    fn noes_under(&self, a: usize) -> Classes {
+        let below = chained(&self.yes_down, a);
+        below
+            .members()
+            .fold(Classes::default(), |noes, c| noes.or(self.no_up[c]))
     }
 
     pub fn mark(&self, a: usize, b: usize) -> Mark {
-        if self.is_yes(a, b) {
-            Mark::Yes
-        } else if self.is_no(a, b) {
-            Mark::No
-        } else {
-            Mark::Open
-        }
+        mark_of(self.is_yes(a, b), || self.is_no(a, b))
     }
 
     /// "A yes fact on a pair marked no, or a no fact on a pair marked yes,
     /// contradicts."
     pub fn contradicts(&self, fact: Fact) -> bool {
-        match self.mark(fact.a, fact.b) {
-            Mark::Yes => !fact.yes,
-            Mark::No => fact.yes,
-            Mark::Open => false,
+        if fact.yes {
+            self.is_no(fact.a, fact.b)
+        } else {
+            self.is_yes(fact.a, fact.b)
         }
     }
 
-    /// The table of these facts.
+    /// The table of these facts: the mark of every pair. What is above a class
+    /// and the noes under it are searched for once a class, not once a pair.
     pub fn marks(&self) -> Marks {
-        Marks::new(self.n, |a, b| self.mark(a, b))
+        let above: Vec<Classes> = (0..self.n).map(|a| self.above(a)).collect();
+        let noes: Vec<Classes> = (0..self.n).map(|a| self.noes_under(a)).collect();
+        Marks::new(self.n, |a, b| {
+            mark_of(above[a].has(b), || noes[a].meets(above[b]))
+        })
+    }
+}
+
+/// Yes goes before no: no accepted facts make a pair both.
+fn mark_of(yes: bool, no: impl Fn() -> bool) -> Mark {
+    if yes {
+        Mark::Yes
+    } else if no() {
+        Mark::No
+    } else {
+        Mark::Open
     }
 }
 

@@ -28,7 +28,7 @@ use std::process::ExitCode;
 
 const USAGE: &str = "\
 usage: second print < BOOK
-       second sweep < SEED-AND-ROUNDS
+       second sweep < SEED-ROUNDS-CLASSES
        second book SEED
        second books SEED COUNT DIR
        second prints DIR
@@ -86,8 +86,9 @@ fn print_input() -> io::Result<()> {
 fn sweep_input() -> io::Result<()> {
     let mut input = Vec::new();
     io::stdin().lock().read_to_end(&mut input)?;
-    let (seed, rounds) = sweep::seed_and_rounds(&input);
-    let mut sweep = sweep::Sweep::new(seed, BufWriter::new(io::stdout().lock()));
+    let [seed, rounds, third] = sweep::input_numbers(&input);
+    let most = sweep::most_classes(third);
+    let mut sweep = sweep::Sweep::new(seed, most, BufWriter::new(io::stdout().lock()));
     for _ in 0..rounds {
         sweep.round()?;
     }

@@ -1,6 +1,6 @@
 //! The marks of a table, and what document 01 says of them.
 
-use crate::classes::pairs;
+use crate::classes::{pairs, Classes};
 
 #[derive(Clone, Copy, Debug, PartialEq, Eq)]
 pub enum Mark {
@@ -93,24 +93,33 @@ impl Marks {
     }
 
     fn transitive(&self) -> bool {
+        let above = self.rows(Mark::Yes);
         self.pairs_marked(Mark::Yes)
-            .all(|(a, b)| self.above(b).all(|c| self.is_yes(a, c)))
+            .all(|(a, b)| above[b].within(above[a]))
     }
 
     fn pruned(&self) -> bool {
-        self.pairs_marked(Mark::No).all(|(c, d)| {
-            self.above(c)
-                .all(|a| self.below(d).all(|b| self.at(a, b) == Mark::No))
-        })
+        let (above, below) = (self.rows(Mark::Yes), self.columns(Mark::Yes));
+        let no = self.rows(Mark::No);
+        self.pairs_marked(Mark::No)
+            .all(|(c, d)| above[c].members().all(|a| below[d].within(no[a])))
     }
 
-    /// Every b with (a, b) yes.
-    fn above(&self, a: usize) -> impl Iterator<Item = usize> + '_ {
-        (0..self.n).filter(move |&b| self.is_yes(a, b))
+    /// At each a: every b such that (a, b) has this mark.
+    fn rows(&self, mark: Mark) -> Vec<Classes> {
+        let mut rows = vec![Classes::default(); self.n];
+        for (a, b) in self.pairs_marked(mark) {
+            rows[a] = rows[a].with(b);
+        }
+        rows
     }
 
-    /// Every a with (a, b) yes.
-    fn below(&self, b: usize) -> impl Iterator<Item = usize> + '_ {
-        (0..self.n).filter(move |&a| self.is_yes(a, b))
+    /// At each b: every a such that (a, b) has this mark.
+    fn columns(&self, mark: Mark) -> Vec<Classes> {
+        let mut columns = vec![Classes::default(); self.n];
+        for (a, b) in self.pairs_marked(mark) {
+            columns[b] = columns[b].with(a);
+        }
+        columns
     }
 }

@@ -9,15 +9,24 @@ use crate::draw::{digest, Draw};
 use crate::lines::Lines;
 use crate::refusal::Session;
 
+/// The most classes where the input does not say. A round of more than these
+/// has other numbers of calls.
+const FEW_CLASSES: usize = 12;
+
+/// "After 400 such answers `next` is not called again."
+const MOST_ANSWERS: usize = 400;
+
 /// "Five buffers of bytes, all 0 at the start and kept from round to round",
 /// and what else is kept.
 pub struct Sweep<W: Write> {
     draw: Draw,
-    table: [u8; 256],
-    spare: [u8; 256],
-    heads: [u8; 16],
-    steps: [u8; 512],
-    book: [u8; 512],
+    /// The most classes of a round.
+    most: usize,
+    table: Vec<u8>,
+    spare: Vec<u8>,
+    heads: Vec<u8>,
+    steps: Vec<u8>,
+    book: Vec<u8>,
     /// "The length of the book last written."
     length: usize,
     n: usize,
@@ -37,14 +46,16 @@ struct Given {
 }
 
 impl<W: Write> Sweep<W> {
-    pub fn new(seed: u64, out: W) -> Sweep<W> {
+    /// `most` is from 1 to 128.
+    pub fn new(seed: u64, most: usize, out: W) -> Sweep<W> {
         Sweep {
             draw: Draw::new(seed),
-            table: [0; 256],
-            spare: [0; 256],
-            heads: [0; 16],
-            steps: [0; 512],
-            book: [0; 512],
+            most,
+            table: vec![0; 16_386],
+            spare: vec![0; 16_386],
+            heads: vec![0; 130],
+            steps: vec![0; 32_768],
+            book: vec![0; 32_778],
             length: 0,
             n: 1,
             lent: 1,
@@ -56,7 +67,7 @@ impl<W: Write> Sweep<W> {
     /// "A round."
     pub fn round(&mut self) -> io::Result<()> {
         let wide = self.draw.index(8) == 0;
-        self.n = 1 + self.draw.index(if wide { 12 } else { 5 });
+        self.n = 1 + self.draw.index(if wide { self.most } else { 5 });
         self.lent = self.n * self.n + self.draw.index(3);
         self.session = Session {
             classes: self.n as u64,
@@ -67,11 +78,26 @@ impl<W: Write> Sweep<W> {
             let given = self.no_trouble();
             self.fresh(given)?;
         }
-        let calls = 4 + self.draw.index(self.n * self.n + 1);
+        let many = self.n > FEW_CLASSES;
+        if many && self.draw.below(2) == 1 {
+            self.tell_row()?;
+        }
+        let spread = if many { 145 } else { self.n * self.n + 1 };
+        let calls = 4 + self.draw.index(spread);
         self.calls(calls)?;
         self.settle_all()?;
         let calls = 4 + self.draw.index(5);
         self.calls(calls)
+    }
+
+    /// "`tell` is called without trouble for each class a from 0 to n - 2: a is
+    /// under a + 1."
+    fn tell_row(&mut self) -> io::Result<()> {
+        for a in 0..self.n as u64 - 1 {
+            let given = self.no_trouble();
+            self.tell(given, a, a + 1, true)?;
+        }
+        Ok(())
     }
 
     fn calls(&mut self, count: usize) -> io::Result<()> {
@@ -79,14 +105,16 @@ impl<W: Write> Sweep<W> {
     }
 
     /// "While it asks, `answer` is called without trouble on the pair asked,
-    /// with a verdict drawn, and then `next` again."
+    /// with a verdict drawn, and then `next` again; but after 400 such answers
+    /// `next` is not called again."
     fn settle_all(&mut self) -> io::Result<()> {
-        loop {
+        for _ in 0..MOST_ANSWERS {
             let given = self.no_trouble();
             if !self.next(given)? {
-                return Ok(());
+                break;
             }
         }
+        Ok(())
     }
 
     pub fn flush(&mut self) -> io::Result<()> {
@@ -97,7 +125,7 @@ impl<W: Write> Sweep<W> {
     fn call(&mut self) -> io::Result<()> {
         let given = self.trouble();
         match self.draw.index(19) {
-            0..=4 => self.tell(given),
+            0..=4 => self.drawn_tell(given),
             5..=8 => self.drawn_answer(given),
             9 | 10 => self.next(given).map(|_| ()),
             11 => self.hierarchy(given),
@@ -163,8 +191,12 @@ impl<W: Write> Sweep<W> {
         Ok(result.is_ok())
     }
 
-    fn tell(&mut self, given: Given) -> io::Result<()> {
+    fn drawn_tell(&mut self, given: Given) -> io::Result<()> {
         let (a, b, yes) = (self.class(), self.class(), self.verdict());
+        self.tell(given, a, b, yes)
+    }
+
+    fn tell(&mut self, given: Given, a: u64, b: u64, yes: bool) -> io::Result<()> {
         let table = &mut self.table[..given.lent];
         let (result, session) = calls::tell(given.session, table, a, b, yes);
         let digests = [digest(table)];
@@ -297,7 +329,8 @@ impl<W: Write> Sweep<W> {
     }
 
     /// The flags of a clip: any set of classes, or the row of a class c, which
-    /// has c and what is above it; and at times a flag at n or above.
+    /// has c and what is above it; and at times a flag at n or above, for
+    /// which "where n is 128 nothing is drawn".
     fn played(&mut self) -> [bool; MOST_CLASSES] {
         let n = self.n;
         let mut played = [false; MOST_CLASSES];
@@ -311,7 +344,7 @@ impl<W: Write> Sweep<W> {
                 *flag = self.table[c * n + b] == 1;
             }
         }
-        if self.draw.index(8) == 0 {
+        if n < MOST_CLASSES && self.draw.index(8) == 0 {
             played[n + self.draw.index(MOST_CLASSES - n)] = true;
         }
         played
@@ -333,20 +366,28 @@ impl<W: Write> Sweep<W> {
     }
 }
 
-/// "Input": the seed and the count of rounds. "Each is a run of digits,
-/// whatever bytes stand between; a number that is missing is 0, and each is
-/// taken modulo 1,000,000,007 as its digits are read."
-pub fn seed_and_rounds(input: &[u8]) -> (u64, u64) {
+/// "Input": the seed, the count of rounds and the most classes. "Each is a run
+/// of digits, whatever bytes stand between; a number that is missing is 0, and
+/// each is taken modulo 1,000,000,007 as its digits are read."
+pub fn input_numbers(input: &[u8]) -> [u64; 3] {
     let mut numbers = input
         .split(|byte| !byte.is_ascii_digit())
         .filter(|digits| !digits.is_empty())
         .map(number);
-    let seed = numbers.next().unwrap_or(0);
-    (seed, numbers.next().unwrap_or(0))
+    [(); 3].map(|()| numbers.next().unwrap_or(0))
 }
 
 fn number(digits: &[u8]) -> u64 {
     digits.iter().fold(0, |number, digit| {
         (number * 10 + u64::from(digit - b'0')) % 1_000_000_007
     })
+}
+
+/// "Where the third is 0 the most classes are 12, and where it is above 128
+/// they are 128."
+pub fn most_classes(third: u64) -> usize {
+    match third {
+        0 => FEW_CLASSES,
+        _ => usize::try_from(third).map_or(MOST_CLASSES, |third| third.min(MOST_CLASSES)),
+    }
 }

@@ -4,8 +4,9 @@
 use super::session;
 use crate::books::book;
 use crate::calls::{answer, fresh, next, read, tell, write};
-use crate::facts::Facts;
-use crate::marks::Marks;
+use crate::draw::Draw;
+use crate::facts::{Fact, Facts};
+use crate::marks::{Mark, Marks};
 use crate::print::printed;
 
 #[test]
@@ -58,7 +59,7 @@ fn tables_after_books() {
 fn calls_and_books_agree() {
     for seed in 0..300 {
         let n = 1 + seed % 6;
-        let mut draw = crate::draw::Draw::scattered(seed);
+        let mut draw = Draw::scattered(seed);
         let mut table = vec![0; 36];
         let (_, mut session) = fresh(n, &mut table);
         let mut book = vec![1, 0, 1, n as u8];
@@ -80,5 +81,63 @@ fn calls_and_books_agree() {
                 book = longer;
             }
         }
+    }
+}
+
+/// The table of some facts has at each pair the mark that is searched for when
+/// that pair alone is asked.
+#[test]
+fn marks_of_all_pairs_and_of_one() {
+    for seed in 0..300 {
+        let mut draw = Draw::scattered(seed);
+        let n = 1 + draw.index(14);
+        let mut facts = Facts::none(n);
+        for _ in 0..3 * n {
+            let (a, b, yes) = (draw.index(n), draw.index(n), draw.once_in(2));
+            let fact = Fact { a, b, yes };
+            if !facts.contradicts(fact) {
+                facts.accept(fact);
+            }
+        }
+        assert_eq!(facts.marks(), Marks::new(n, |a, b| facts.mark(a, b)));
+    }
+}
+
+/// "The diagonal is yes, the yes marks are transitive, and whenever (c, d) is
+/// no, (c, a) is yes and (b, d) is yes, (a, b) is no", class by class.
+fn sound_class_by_class(marks: &Marks) -> bool {
+    let all = || 0..marks.n();
+    let yes = |a, b| marks.is_yes(a, b);
+    let no = |a, b| marks.at(a, b) == Mark::No;
+    let transitive = |a, b, c| !(yes(a, b) && yes(b, c)) || yes(a, c);
+    let pruned = |a, b, c, d| !(no(c, d) && yes(c, a) && yes(b, d)) || no(a, b);
+    all().all(|a| yes(a, a))
+        && all().all(|a| all().all(|b| all().all(|c| transitive(a, b, c))))
+        && all().all(|a| all().all(|b| all().all(|c| all().all(|d| pruned(a, b, c, d)))))
+}
+
+/// Every table of three classes, and tables of more with a byte changed.
+#[test]
+fn soundness_class_by_class() {
+    let mut sound = 0;
+    for number in 0..3u32.pow(9) {
+        let bytes: Vec<u8> = (0..9).map(|i| (number / 3u32.pow(i) % 3) as u8).collect();
+        let marks = Marks::of_table(3, &bytes).unwrap();
+        assert_eq!(marks.sound(), sound_class_by_class(&marks), "{bytes:?}");
+        sound += usize::from(marks.sound());
+    }
+    // The 29 orders of three classes, all pairs settled, and tables with open
+    // pairs.
+    assert!(sound > 29);
+    for seed in 0..300 {
+        let mut table = vec![0; 16_384];
+        let n = read(&book(seed), &mut table).1.classes as usize;
+        if n == 0 || n > 24 {
+            continue;
+        }
+        let mut draw = Draw::scattered(seed);
+        table[draw.index(n * n)] = draw.below(3) as u8;
+        let marks = Marks::of_table(n, &table).unwrap();
+        assert_eq!(marks.sound(), sound_class_by_class(&marks), "seed {seed}");
     }
 }
