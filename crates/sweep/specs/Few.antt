@@ -2,6 +2,6 @@
 -- Assumes nothing.
 use Prim.Native.Nat.{ℕ, _≤_}
 
--- a round has 1 to 12 classes
+-- a round has 1 to 128 classes
 abbrev pub Few : ℕ → Type 0
-Few n = (1 ≤ n) × (n ≤ 12)
+Few n = (1 ≤ n) × (n ≤ 128)

@@ -45,6 +45,16 @@ pub fn tell_or_answer(letter: u8, sizes: Sizes, mut kept: Kept) -> Kept
     change(letter, kept, fact)
 }
 
+// That one class is under another.
+pub fn tell_under(lower: usize, upper: usize, kept: Kept) -> Kept {
+    let fact = Fact {
+        lower: lower,
+        upper: upper,
+        holds: true,
+    };
+    change(b'T', kept, fact)
+}
+
 // With flags that are drawn.
 pub fn clip(sizes: Sizes, mut kept: Kept) -> Kept
     requires { ⌜ Few (sizes .n) ⌝ }

@@ -19,10 +19,10 @@ pub fn draw(state: &mut usize, below: usize) -> usize
     drawn % below
 }
 
-// n * n, which is at most 144.
+// n * n, which is at most 16384.
 pub fn square(n: usize) -> usize
     requires { ⌜ Few n ⌝ }
-    ensures { λ r. ⌜ (1 ≤ r) × (r ≤ 144) ⌝ }
+    ensures { λ r. ⌜ (1 ≤ r) × (r ≤ 16384) ⌝ }
 {
     n * n
 }
@@ -63,7 +63,7 @@ pub fn draw_fact(state: &mut usize, n: usize) -> Fact
 
 // How many bytes of a buffer are lent: now and then a few, otherwise most, and a draw more where there is one to make.
 pub fn draw_lent(state: &mut usize, few: usize, most: usize, more: usize) -> usize
-    requires { ⌜ (1 ≤ few) × (most ≤ 298) × (more ≤ 3) ⌝ }
+    requires { ⌜ (1 ≤ few) × (most ≤ 32778) × (more ≤ 3) ⌝ }
 {
     if draw(&mut *state, 4) == 0 {
         return draw(&mut *state, few);

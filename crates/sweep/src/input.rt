@@ -1,12 +1,13 @@
-// The two numbers of standard input.
+// The three numbers of standard input.
 
 const MODULUS: usize = 1000000007;
 
-// The numbers as far as they are read. The phase is 1 within the first run of digits and 3 within the second, 0
-// before, 2 between and 4 behind them.
+// The numbers as far as they are read. The phase is 1, 3 and 5 within the three runs of digits, 0 before, 2 and 4
+// between and 6 behind them.
 pub struct Input {
     pub seed: usize,
     pub rounds: usize,
+    pub most: usize,
     pub phase: usize,
 }
 
@@ -26,6 +27,10 @@ fn with_digit(mut input: Input, digit: u8) -> Input {
             input.rounds = appended(input.rounds, digit);
             input.phase = 3;
         }
+        4 | 5 => {
+            input.most = appended(input.most, digit);
+            input.phase = 5;
+        }
         _ => {}
     }
     input
@@ -37,6 +42,7 @@ fn with_gap(mut input: Input) -> Input {
     match phase {
         1 => input.phase = 2,
         3 => input.phase = 4,
+        5 => input.phase = 6,
         _ => {}
     }
     input
@@ -56,6 +62,7 @@ pub fn numbers(text: &[u8]) -> Input {
     let mut input = Input {
         seed: 0,
         rounds: 0,
+        most: 0,
         phase: 0,
     };
     let mut i: usize = 0;

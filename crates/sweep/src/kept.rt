@@ -2,6 +2,15 @@
 use promise::Session;
 ghost use Rattle.io.specs.Counts.{Counts};
 
+// The bytes of the buffers, for 128 classes and a little more than they need.
+pub const TABLE: usize = 16386;
+
+pub const HEADS: usize = 130;
+
+pub const STEPS: usize = 32768;
+
+pub const BOOK: usize = 32778;
+
 // The state of the draws, the length of the book last written, the session, and the five buffers; besides, what the
 // call to come is given, and what the last one said: whether it was accepted, and whether it asked.
 pub struct Kept {
@@ -11,11 +20,11 @@ pub struct Kept {
     pub given: Given,
     pub accepted: bool,
     pub asks: bool,
-    pub table: [u8; 256],
-    pub spare: [u8; 256],
-    pub heads: [u8; 16],
-    pub steps: [u8; 512],
-    pub book: [u8; 512],
+    pub table: [u8; TABLE],
+    pub spare: [u8; TABLE],
+    pub heads: [u8; HEADS],
+    pub steps: [u8; STEPS],
+    pub book: [u8; BOOK],
 }
 
 // What a call is given: a session, and so many bytes of the table, of which one may be changed for it. Its place is
@@ -38,7 +47,7 @@ pub fn unchanged(session: Session, lent: usize) -> Given {
     Given {
         session: session,
         lent: lent,
-        place: 256,
+        place: TABLE,
         byte: 0,
     }
 }
@@ -62,11 +71,11 @@ pub fn nothing(state: usize) -> Kept {
         given: given,
         accepted: false,
         asks: false,
-        table: [0; 256],
-        spare: [0; 256],
-        heads: [0; 16],
-        steps: [0; 512],
-        book: [0; 512],
+        table: [0; TABLE],
+        spare: [0; TABLE],
+        heads: [0; HEADS],
+        steps: [0; STEPS],
+        book: [0; BOOK],
     }
 }
 

@@ -10,19 +10,34 @@ use crate::trouble::trouble;
 ghost use Prim.Native.Nat.{_≤_};
 ghost use Rattle.sweep.specs.Few.{Few};
 
-fn draw_count(state: &mut usize) -> usize
+// The most classes of a round: 12 where none are asked for, and never above 128.
+pub fn most_classes(asked: usize) -> usize
+    ensures { λ r. ⌜ Few r ⌝ }
+{
+    if asked == 0 {
+        return 12;
+    }
+    if asked > 128 {
+        return 128;
+    }
+    asked
+}
+
+fn draw_count(state: &mut usize, most: usize) -> usize
+    requires { ⌜ Few most ⌝ }
     ensures { λ r. ⌜ Few r ⌝ }
 {
     if draw(&mut *state, 8) == 0 {
-        return 1 + draw(&mut *state, 12);
+        return 1 + draw(&mut *state, most);
     }
     1 + draw(&mut *state, 5)
 }
 
-fn draw_sizes(state: &mut usize) -> Sizes
+fn draw_sizes(state: &mut usize, most: usize) -> Sizes
+    requires { ⌜ Few most ⌝ }
     ensures { λ r. ⌜ Few (r .n) ⌝ }
 {
-    let n = draw_count(&mut *state);
+    let n = draw_count(&mut *state, most);
     Sizes {
         n: n,
         lent: square(n) + draw(&mut *state, 3),
@@ -39,6 +54,22 @@ fn begin(sizes: Sizes, mut kept: Kept) -> Kept
         return begun;
     }
     calls::fresh(no_trouble(sizes, begun))
+}
+
+// Where there are many classes they are now and then told to be in a row, so that few questions settle all.
+fn in_a_row(sizes: Sizes, mut kept: Kept) -> Kept
+    requires { ⌜ Few (sizes .n) ⌝ }
+{
+    if sizes.n <= 12 {
+        return kept;
+    }
+    if draw(&mut kept.state, 2) == 0 {
+        return kept;
+    }
+    for class in 1..sizes.n {
+        kept = calls::tell_under(class - 1, class, no_trouble(sizes, kept));
+    }
+    kept
 }
 
 // A call with trouble.
@@ -70,11 +101,12 @@ fn some_calls(sizes: Sizes, mut kept: Kept, below: usize) -> Kept
     kept
 }
 
-// next without trouble until it does not ask. It asks fewer than n * n times, since each answer settles a pair.
-fn settle_all(sizes: Sizes, mut kept: Kept) -> Kept
-    requires { ⌜ Few (sizes .n) ⌝ }
-{
-    for _ in 0..square(sizes.n) {
+const MOST_QUESTIONS: usize = 400;
+
+// next without trouble until it does not ask, or has asked often enough. Up to 12 classes it stops by itself, since each
+// answer settles a pair.
+fn settle_all(sizes: Sizes, mut kept: Kept) -> Kept {
+    for _ in 0..MOST_QUESTIONS {
         kept = calls::next(sizes, no_trouble(sizes, kept));
         if !kept.asks {
             return kept;
@@ -83,16 +115,30 @@ fn settle_all(sizes: Sizes, mut kept: Kept) -> Kept
     kept
 }
 
-fn round(mut kept: Kept) -> Kept {
-    let sizes = draw_sizes(&mut kept.state);
-    let begun = begin(sizes, kept);
-    let called = some_calls(sizes, begun, square(sizes.n) + 1);
+// How many calls with trouble more than 4 there are at most.
+fn most_calls(n: usize) -> usize
+    ensures { λ r. ⌜ (1 ≤ r) × (r ≤ 145) ⌝ }
+{
+    if n > 12 {
+        return 145;
+    }
+    n * n + 1
+}
+
+fn round(most: usize, mut kept: Kept) -> Kept
+    requires { ⌜ Few most ⌝ }
+{
+    let sizes = draw_sizes(&mut kept.state, most);
+    let begun = in_a_row(sizes, begin(sizes, kept));
+    let called = some_calls(sizes, begun, most_calls(sizes.n));
     let settled = settle_all(sizes, called);
     some_calls(sizes, settled, 5)
 }
 
-pub fn rounds(count: usize, mut kept: Kept) {
+pub fn rounds(count: usize, most: usize, mut kept: Kept)
+    requires { ⌜ Few most ⌝ }
+{
     for _ in 0..count {
-        kept = round(kept);
+        kept = round(most, kept);
     }
 }

@@ -4,6 +4,7 @@ use crate::draw::square;
 use crate::kept::Given;
 use crate::kept::Kept;
 use crate::kept::Sizes;
+use crate::kept::TABLE;
 use crate::kept::unchanged;
 use promise::Session;
 ghost use Rattle.sweep.specs.Few.{Few};
@@ -38,7 +39,7 @@ fn draw_trouble(state: &mut usize, sizes: Sizes, session: Session) -> Given
 // The next call is given this. Where a byte of the table is to be changed, it and the given byte trade places.
 fn give(mut kept: Kept, mut given: Given) -> Kept {
     let place = given.place;
-    if place < 256 {
+    if place < TABLE {
         let byte = kept.table[place];
         kept.table[place] = given.byte;
         given.byte = byte;

@@ -1,4 +1,4 @@
--- `sweep::draw::square` meets its contract: 1 * 1 and 12 * 12 bound it.
+-- `sweep::draw::square` meets its contract: 1 * 1 and 128 * 128 bound it.
 -- Assumes nothing.
 use native.Mathlib.Nat.{mul-le-mul}
 use native.Mathlib.Omega.{arith}

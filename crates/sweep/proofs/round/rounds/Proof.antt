@@ -6,10 +6,10 @@ use Rattle.sweep.proofs.round.rounds.Statement.{statement}
 use Rattle.sweep.proofs.round.rounds.Tie as tie
 
 abbrev Inv-loop : tie.InvT-loop
-Inv-loop count kept₀ counter₀ kept counter = counter ≤ count
+Inv-loop count most kept₀ counter₀ kept counter = counter ≤ count
 
 abbrev μ-loop : tie.MeasureT-loop
-μ-loop count kept₀ counter₀ kept counter = count - counter
+μ-loop count most kept₀ counter₀ kept counter = count - counter
 
 pub rounds-spec : {M : Type 1} → statement M
 rounds-spec =

@@ -1,4 +1,4 @@
--- `sweep::round::settle_all` is safe, and ends after as many turns as there are marks.
+-- `sweep::round::settle_all` is safe, and ends after 400 turns at most.
 -- Assumes nothing.
 use Prim.Native.Nat.{_≤_, _-_}
 use borrow.Author.Needs.{needs}
@@ -6,10 +6,10 @@ use Rattle.sweep.proofs.round.settle_all.Statement.{statement}
 use Rattle.sweep.proofs.round.settle_all.Tie as tie
 
 abbrev Inv-loop : tie.InvT-loop
-Inv-loop sizes kept₀ counter₀ end kept counter = counter ≤ end
+Inv-loop sizes kept₀ counter₀ kept counter = counter ≤ 400
 
 abbrev μ-loop : tie.MeasureT-loop
-μ-loop sizes kept₀ counter₀ end kept counter = end - counter
+μ-loop sizes kept₀ counter₀ kept counter = 400 - counter
 
 pub settle-all-spec : {M : Type 1} → statement M
 settle-all-spec =
@@ -17,7 +17,6 @@ settle-all-spec =
     (tie.spec
     Inv-loop
     μ-loop
-    (λ c κs. search needs)
     (λ c. search needs)
     (λ c κs. search needs)
     (λ c κs. search needs)
