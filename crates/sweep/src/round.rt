@@ -103,8 +103,8 @@ fn some_calls(sizes: Sizes, mut kept: Kept, below: usize) -> Kept
 
 const MOST_QUESTIONS: usize = 400;
 
-// next without trouble until it does not ask, or has asked often enough. Up to 12 classes it stops by itself, since each
-// answer settles a pair.
+// next without trouble until it does not ask, or has asked often enough. Up to 12 classes it stops by itself, since
+// each answer settles a pair.
 fn settle_all(sizes: Sizes, mut kept: Kept) -> Kept {
     for _ in 0..MOST_QUESTIONS {
         kept = calls::next(sizes, no_trouble(sizes, kept));
