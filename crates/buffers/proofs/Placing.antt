@@ -1,7 +1,6 @@
 -- Bytes placed in a buffer, one by one, behind each other and before each other.
 -- Assumes nothing.
 use mathlib.Core.Path.{_≡_, refl, sym, _∙_, ap}
-use mathlib.Core.Logic.{_↔_}
 use mathlib.Core.List.{List, [], _∷_, _++_}
 use Prim.Native.Nat.{ℕ, zero, suc, _+_, _≤_, _<_}
 use native.Mathlib.Omega.{arith}
@@ -9,10 +8,6 @@ use lib.ListN.{length, set, length-append, take-append-drop}
 use Rattle.promise.proofs.Counts.{over-fits}
 use Rattle.promise.specs.Calls.{over}
 use Rattle.buffers.specs.Placed.{place, Placed, Put}
-
--- at the front of a buffer it is what is written over it
-pub placed-front : {w out out′ : List ℕ} → Placed w 0 out out′ ↔ (out′ ≡ over w out)
-placed-front = (λ h. h .bytes, λ e. record { bytes = e })
 
 place-one : (x at : ℕ) (out : List ℕ) → at < length out → set out at x ≡ place (x ∷ []) at out
 place-one x at [] h = absurd (omega arith)

@@ -103,9 +103,10 @@ pub record Printed (book t text : List ℕ) : Type 0 where
   pub says : Says reply (marksOf (reply .session) table) text
 
 -- What is written of an input: the bytes that the program has read of it, and how many came behind them. "program only,
--- before all others: input above 32,768 bytes"; "for 15 the place is 32768".
+-- before all others: input above 32,768 bytes"; "for 15 the place is 32768". Any other input has been read whole.
 pub record Output (held : List ℕ) (behind : ℕ) (t text : List ℕ) : Type 0 where
   pub number : ℕ
   pub first : First (tooLong (length held + behind) ∷ []) number
   pub refused : number ≢ 0 → text ≡ refusalLine number 32768
+  pub whole : number ≡ 0 → behind ≡ 0
   pub accepted : number ≡ 0 → Printed held t text

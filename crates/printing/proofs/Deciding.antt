@@ -27,6 +27,7 @@ module _ {buffer : List ℕ} {count behind : ℕ} (input : Input buffer count be
                 number = 15;
                 first = inl (omega (arith, read input, input .size, input .held .full (λ z. omega arith)), refl);
                 refused = λ _. refl;
+                whole = λ e. absurd (omega (arith, e));
                 accepted = λ e. absurd (omega (arith, e));
               };
           put = put;
@@ -43,6 +44,7 @@ module _ {buffer : List ℕ} {count behind : ℕ} (input : Input buffer count be
                 number = 0;
                 first = inr (λ long. omega (arith, read input, input .size, input .held .within), refl);
                 refused = λ e. absurd (e refl);
+                whole = λ _. none;
                 accepted = λ _. answered .printed;
               };
           put = answered .put;

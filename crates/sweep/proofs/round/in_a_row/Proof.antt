@@ -1,7 +1,6 @@
 -- `sweep::round::in_a_row` is safe, and ends after as many tells as there are classes behind the first.
 -- Assumes nothing.
 use Prim.Native.Nat.{_≤_, _-_}
-use native.Mathlib.Omega.{arith}
 use borrow.Author.Needs.{needs}
 use Rattle.sweep.proofs.round.in_a_row.Statement.{statement}
 use Rattle.sweep.proofs.round.in_a_row.Tie as tie
