@@ -36,7 +36,7 @@ TURNED = """
     widthOf write-read write-spec written-from written-one
 """
 # Words that a file of the repository declares beside a library's of the same spelling.
-OTHERS = {"add-zero", "zero-add"}
+OTHERS = {"add-zero", "length-append", "zero-add"}
 
 
 def lemma_files():

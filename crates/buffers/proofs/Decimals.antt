@@ -5,7 +5,7 @@ use mathlib.Core.List.{List, [], ◌∷◌, ◌++◌}
 use Prim.Native.Nat.{ℕ, zero, suc, ◌+◌, ◌-◌, ◌*◌, ◌/◌, ◌%◌, ◌^◌, ◌<◌, ◌≤◌}
 use native.Mathlib.Decide.{dec_lt}
 use native.Mathlib.Omega.{arith}
-use lib.ListN.{length, get_or, length_append, get_or-append}
+use lib.ListN.{length, get_or, length-append, get_or-append}
 use lib.Seq.{get_or_at}
 use Rattle.buffers.specs.Decimal.{digit_0, digits, decimal}
 
@@ -40,7 +40,7 @@ unfolding decimal
 decimal_more x h = rw (digits_some x (x / 10) (omega arith) (omega arith))
 
 pub one_longer : (x : ℕ) → 10 ≤ x → length (decimal x) ≡ length (decimal (x / 10)) + 1
-one_longer x h = rw (decimal_more x h) (length_append (decimal (x / 10)) ((digit_0 + x % 10) ∷ []))
+one_longer x h = rw (decimal_more x h) (length-append (decimal (x / 10)) ((digit_0 + x % 10) ∷ []))
 
 -- the number that digits make, behind those that made v
 unfoldable pub value_from : ℕ → List ℕ → ℕ
@@ -80,11 +80,11 @@ written_more x {w} h p =
     let d = digit_0 + x % 10 in
     record {
       value = value_more 0 w d ∙ omega (arith, p.value);
-      each = λ i l. go i (dec_lt i (length w)) (omega (arith, length_append w (d ∷ [])));
+      each = λ i l. go i (dec_lt i (length w)) (omega (arith, length-append w (d ∷ [])));
       leads = λ e.
           let zero-alone = p.leads (sym (get_or-append w (d ∷ []) 0 0 p.some) ∙ e) in
           absurd (omega (arith, p.value, ap (λ (u : List ℕ). value_from 0 u) zero-alone));
-      some = omega (arith, length_append w (d ∷ []));
+      some = omega (arith, length-append w (d ∷ []));
       short = less;
     }
   where
@@ -97,7 +97,7 @@ written_more x {w} h p =
     less zero some l = absurd (omega arith)
     less (suc zero) some l = absurd (omega arith)
     less (suc (suc k)) some l =
-        omega (arith, length_append w ((digit_0 + x % 10) ∷ []), p.short (suc k) (omega arith) (omega arith))
+        omega (arith, length-append w ((digit_0 + x % 10) ∷ []), p.short (suc k) (omega arith) (omega arith))
 
 written_from : (x : ℕ) → Dec (x < 10) → Written (x / 10) (decimal (x / 10)) → Written x (decimal x)
 written_from x (yes l) p = rw (decimal_one x l) (written_one x l)

@@ -5,7 +5,7 @@ use mathlib.Core.List.{List, [], ◌∷◌, ◌++◌}
 use Prim.Native.Nat.{ℕ, ◌+◌, ◌*◌, ◌≤◌, ◌<◌}
 use native.Mathlib.Nat.{mul-le-mul}
 use native.Mathlib.Omega.{arith}
-use lib.ListN.{length, length_append}
+use lib.ListN.{length, length-append}
 use Rattle.order.specs.Tables.{Pair, Lists, bytes_of}
 use Rattle.order.proofs.Pairs.{pairs_of, pairs_before, before_none, before_hit, before_miss, before_row, before_all}
 use Rattle.order.proofs.Pairs.{pairs_listed, bytes_append, length_bytes}
@@ -24,10 +24,10 @@ noted_more {out} {out₁} {out₂} {l} {count} a b h e put =
     let more = bytes_append l ((a, b) ∷ []) in
     let many : 2 * count ≡ 0 + length (bytes_of l) = omega (arith, h.counted, length_bytes l) in
     record {
-      counted = omega (arith, h.counted, length_append l ((a, b) ∷ []));
+      counted = omega (arith, h.counted, length-append l ((a, b) ∷ []));
       size = e ∙ h.size;
       written = λ room.
-          let all = ap (λ (u : List ℕ). length u) more ∙ length_append (bytes_of l) (a ∷ b ∷ []) in
+          let all = ap (λ (u : List ℕ). length u) more ∙ length-append (bytes_of l) (a ∷ b ∷ []) in
           rw more (placed_behind many (omega arith) (h.written (omega arith)) (put.put (omega (arith, h.size))));
     }
 

@@ -4,7 +4,7 @@ use mathlib.Core.Path.{◌≡◌, ◌∙◌, ap, ap₂}
 use mathlib.Core.List.{List, [], ◌++◌, append-nil}
 use Prim.Native.Nat.{ℕ, ◌-◌, ◌≤◌}
 use native.Mathlib.Omega.{arith}
-use lib.ListN.{length, take, drop, length_append, length-drop, drop_of_length-le}
+use lib.ListN.{length, take, drop, length-append, length-drop, drop_of_length-le}
 use lib.Seq.{length-take-le, take_all}
 use Rattle.buffers.specs.Placed.{place, Placed}
 
@@ -31,8 +31,8 @@ module _ (start : ℕ) (out : List ℕ) where
       omega (
         arith,
         part_length,
-        length_append (take start out) (u ++ drop (length out - start) (drop start out)),
-        length_append u (drop (length out - start) (drop start out)),
+        length-append (take start out) (u ++ drop (length out - start) (drop start out)),
+        length-append u (drop (length out - start) (drop start out)),
         ap (λ (v : List ℕ). length v) none_left,
         length-take-le start out room,
       )

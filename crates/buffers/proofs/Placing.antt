@@ -4,7 +4,7 @@ use mathlib.Core.Path.{◌≡◌, refl, sym, ◌∙◌, ap}
 use mathlib.Core.List.{List, [], ◌∷◌, ◌++◌}
 use Prim.Native.Nat.{ℕ, zero, suc, ◌+◌, ◌≤◌, ◌<◌}
 use native.Mathlib.Omega.{arith}
-use lib.ListN.{length, set, length_append, take-append-drop}
+use lib.ListN.{length, set, length-append, take-append-drop}
 use Rattle.promise.proofs.Counts.{over_fits}
 use Rattle.promise.specs.Calls.{over}
 use Rattle.buffers.specs.Placed.{place, Placed, Put}
@@ -69,7 +69,7 @@ pub put_then :
 put_then {w} {x} first second =
     record {
       placed = placed_behind first.ends first.fits first.placed second.placed;
-      ends = omega (arith, first.ends, second.ends, length_append w x);
+      ends = omega (arith, first.ends, second.ends, length-append w x);
       fits = omega (arith, second.fits, put_length first);
     }
 
@@ -81,6 +81,6 @@ put_before {w} {x} first second =
     record {
       placed =
           placed_before second.ends (omega (arith, second.fits, put_length first)) first.placed second.placed;
-      ends = omega (arith, first.ends, second.ends, length_append w x);
+      ends = omega (arith, first.ends, second.ends, length-append w x);
       fits = first.fits;
     }

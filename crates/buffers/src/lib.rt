@@ -1,4 +1,6 @@
 // Bytes in lent buffers: one byte, a pair, a run of bytes, a number as text. No byte but these is changed.
+#![tactic(auto)]
+
 mod bytes;
 mod numbers;
 

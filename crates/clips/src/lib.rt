@@ -1,5 +1,7 @@
 // The call clip: the noes of a set of classes that played a trial clip are taken in as one. It has no requires: any
 // class count, tally, table and flags get an answer or a refusal.
+#![tactic(auto)]
+
 mod bytes;
 mod members;
 

@@ -1,5 +1,7 @@
 // The face of the library: every public call, and the same calls for C. No function here has a requires: any input
 // gets an answer or a refusal.
+#![tactic(auto)]
+
 mod c;
 
 pub use book::{read, write};

@@ -5,7 +5,7 @@ use mathlib.Core.List.{List, [], ◌∷◌, ◌++◌, append_assoc, append-nil}
 use Prim.Native.Nat.{ℕ, zero, suc, ◌+◌, ◌*◌, ◌≤◌, ◌<◌}
 use native.Mathlib.Numerals.{add-one}
 use native.Mathlib.Omega.{arith}
-use lib.ListN.{length, get_or, take, length_append}
+use lib.ListN.{length, get_or, take, length-append}
 use lib.Seq.{take-suc, take_all, length-take-le}
 use Rattle.order.specs.Tables.{Pair, bytes_of}
 use Rattle.buffers.specs.Placed.{Put}
@@ -30,7 +30,7 @@ one_more :
 one_more {at = at} {text = text} {end = end} {text₂ = text₂} letter x y hx hy e h p =
     record {
       put = subst (λ (u : List ℕ). Put u at text end text₂) e (put_then h.put p);
-      short = omega (arith, h.short, simp length_append at p.ends, byte_short x hx, byte_short y hy);
+      short = omega (arith, h.short, simp length-append at p.ends, byte_short x hx, byte_short y hy);
     }
 
 classes_behind :

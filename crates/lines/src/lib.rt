@@ -1,4 +1,6 @@
 // The lines that the printing program writes, put into a lent buffer.
+#![tactic(auto)]
+
 mod listing;
 mod text;
 

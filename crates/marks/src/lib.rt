@@ -1,5 +1,7 @@
 // The marks in lent bytes. `passes` and `standing`, right above, walk the table by index too; the rest of the library
 // speaks of facts and sound tables, and never of an index.
+#![tactic(auto)]
+
 mod single;
 mod whole;
 

@@ -1,4 +1,6 @@
 // A fact on an open pair of a sound table is taken in, in place, by passes over the pairs of two lines.
+#![tactic(auto)]
+
 mod flags;
 
 ghost use Rattle.std.specs.Prelude.{◌≡◌, ◌<◌};

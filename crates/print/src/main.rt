@@ -1,4 +1,6 @@
 // The printing program.
+#![tactic(auto)]
+
 fn main() {
     printing::print_input();
 }

@@ -1,5 +1,7 @@
 // The printing program's one function: it reads a book from standard input and writes what the library says of it to
 // standard output.
+#![tactic(auto)]
+
 mod input;
 
 ghost use Rattle.printing.specs.Answers.{Room, Answered, Input, Decided};

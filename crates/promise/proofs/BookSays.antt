@@ -12,7 +12,7 @@ use native.Mathlib.Decide.{ℕ_discrete}
 use native.Mathlib.Omega.{arith}
 use borrow.Author.Tests.{eq-eqb}
 use lib.Dec.{eqb}
-use lib.ListN.{length, drop, length_append}
+use lib.ListN.{length, drop, length-append}
 use lib.Seq.{drop_at}
 use Rattle.order.specs.Facts.{Fact, fact_on, under, not_under}
 use Rattle.order.specs.Tables.{mark, Sound, Marks, SameMarks, mark_for, Pair, bytes_of}
@@ -41,7 +41,7 @@ module _ (stage : Stage) (tag : ℕ) (row : TagRow) (known : row_of tag ≡ Look
       (bytes rest : List ℕ) → row.allows (length bytes) ≡ true
       → First (field_refusals stage (field tag bytes ++ rest)) 0
   field_fine bytes rest allowed =
-      let size = length_append bytes rest in
+      let size = length-append bytes rest in
       inr (
         λ e. omega arith,
         inr (

@@ -7,7 +7,7 @@ use mathlib.Core.List.{List, [], ◌∷◌, ◌++◌}
 use Prim.Native.Nat.{ℕ, ◌≤◌, ◌<◌}
 use native.Mathlib.Decide.{ℕ_discrete, dec_lt}
 use native.Mathlib.Omega.{arith}
-use lib.ListN.{length, drop, length_append, length-drop}
+use lib.ListN.{length, drop, length-append, length-drop}
 use Rattle.order.specs.Tables.{opens}
 use Rattle.promise.specs.Refusals.{Condition, First}
 use Rattle.promise.specs.declared.Session.{Session}
@@ -20,7 +20,7 @@ use Rattle.promise.proofs.Calls.{Fixed, owed_unique, owed_there, CallsAlike}
 
 -- a buffer that is long enough keeps its length
 pub over_fits : (w out : List ℕ) → length w ≤ length out → length (over w out) ≡ length out
-over_fits w out h = omega (arith, length_append w (drop (length w) out), length-drop (length w) out)
+over_fits w out h = omega (arith, length-append w (drop (length w) out), length-drop (length w) out)
 
 pub over_length :
     (P : List ℕ → Type 0) (w out : List ℕ) → P w → ¬ TooShort P out → length (over w out) ≡ length out

@@ -9,7 +9,7 @@ use Prim.Native.Nat.{ℕ, zero, suc, ◌+◌, ◌*◌, ◌≤◌, ◌<◌}
 use native.Mathlib.Nat.{suc-mul, mul-le-mul, mod-lt, div-lt_iff_lt-mul}
 use native.Mathlib.Decide.{ℕ_discrete}
 use native.Mathlib.Omega.{arith}
-use lib.ListN.{length, length_append, replicate, length-replicate, get_or-replicate}
+use lib.ListN.{length, length-append, replicate, length-replicate, get_or-replicate}
 use Rattle.order.specs.Tables.{mark, Sound, open_count, opens, Pair, bytes_of}
 use Rattle.order.proofs.Bytes.{pair_below}
 use Rattle.order.proofs.Tables.{Mark, which}
@@ -36,7 +36,7 @@ book_length h =
     let ys = bytes_of h.yes_pairs in
     let zs = bytes_of h.no_pairs in
     ap (λ (l : List ℕ). length l) h.bytes
-    ∙ omega (arith, length_append (field 2 ys) (field 3 zs), length_bytes h.yes_pairs, length_bytes h.no_pairs)
+    ∙ omega (arith, length-append (field 2 ys) (field 3 zs), length_bytes h.yes_pairs, length_bytes h.no_pairs)
 
 -- of a pair with mark m: it is written once at most, and on the diagonal never
 module _ {m a b : ℕ} (p : Dec ((a ≢ b) × (m ≡ 1))) (q : Dec ((a ≢ b) × (m ≡ 2))) where

@@ -9,7 +9,7 @@ use mathlib.Core.List.{head-eq_of_cons-eq, tail-eq_of_cons-eq}
 use Prim.Native.Nat.{ℕ, zero, suc, ◌+◌, ◌≤◌, ◌<◌}
 use native.Mathlib.Decide.{ℕ_discrete, dec_lt}
 use native.Mathlib.Omega.{arith}
-use lib.ListN.{length, length_append}
+use lib.ListN.{length, length-append}
 use Rattle.order.specs.Facts.{Fact, fact_on}
 use Rattle.order.specs.Tables.{mark, opens, Pair, Before, Lists}
 use Rattle.promise.specs.Refusals.{First, standing}
@@ -245,7 +245,7 @@ ends_if verdict s t st fewer = let q = next_there s t in go q.0 q.1
           session = s;
           table = t;
           rounds = Rounds.none;
-          given = λ before later f same. absurd (omega (arith, ap length same, length_append before (f ∷ later)));
+          given = λ before later f same. absurd (omega (arith, ap length same, length-append before (f ∷ later)));
           done = q;
           few = omega arith;
         }

@@ -1,15 +1,16 @@
 // The values that the public calls take and give. There is no code here; specs/ says what each call owes.
+#![tactic(auto)]
 
 // The class count, and the tally of tests.
 #[repr(C)]
-#[derive(Drop)]
+#[derive(Clone, Copy)]
 pub struct Session {
     pub classes: usize,
     pub tests: usize,
 }
 
 // The set of classes that played a trial clip: the flag of each class.
-#[derive(Drop)]
+#[derive(Clone, Copy)]
 pub struct Clip {
     pub played: [bool; MOST_CLASSES],
 }
@@ -17,7 +18,7 @@ pub struct Clip {
 // What fresh, tell, answer, clip and read give: the refusal number, 0 where the call was accepted; its place, 0
 // outside books; the session that holds from now on.
 #[repr(C)]
-#[derive(Drop)]
+#[derive(Clone, Copy)]
 pub struct Reply {
     pub number: u8,
     pub place: usize,
@@ -25,7 +26,7 @@ pub struct Reply {
 }
 
 // What next gives: the pair to ask about, that none is open, or a refusal with its number and place.
-#[derive(Drop)]
+#[derive(Clone, Copy)]
 pub enum Question {
     Ask { lower: usize, upper: usize },
     Done,
@@ -34,7 +35,7 @@ pub enum Question {
 
 // What the calls that count give: how many pairs are open, how many steps, rungs or bytes were written, or a refusal
 // with its number and place.
-#[derive(Drop)]
+#[derive(Clone, Copy)]
 pub enum Counted {
     Count(usize),
     Refused { number: u8, place: usize },
@@ -43,7 +44,7 @@ pub enum Counted {
 // What next gives to C: the refusal number, 0 where there is none, and its place; whether a pair is asked about, and
 // which.
 #[repr(C)]
-#[derive(Drop)]
+#[derive(Clone, Copy)]
 pub struct CrossedQuestion {
     pub number: u8,
     pub place: usize,
@@ -55,7 +56,7 @@ pub struct CrossedQuestion {
 // What the calls that count give to C: the refusal number, 0 where there is none, and its place; the count, 0 where
 // it is refused.
 #[repr(C)]
-#[derive(Drop)]
+#[derive(Clone, Copy)]
 pub struct CrossedCount {
     pub number: u8,
     pub place: usize,
@@ -63,7 +64,7 @@ pub struct CrossedCount {
 }
 
 // The stages of reading a book: no field is read yet, and a class count is accepted.
-#[derive(Drop)]
+#[derive(Clone, Copy)]
 pub enum Stage {
     Start,
     Begun,

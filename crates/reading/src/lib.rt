@@ -1,4 +1,6 @@
 // The call read: any bytes of any length, on any table.
+#![tactic(auto)]
+
 mod facts;
 mod fields;
 mod tags;

@@ -1,4 +1,6 @@
 // A whole history of calls: what demand 3 promises of a run, held to the calls themselves.
+#![tactic(auto)]
+
 ghost use Rattle.std.specs.Prelude.{◌≡◌, false, ◌+◌, ◌*◌, ◌≤◌, ◌<◌, get_or, length, drop};
 ghost use Rattle.promise.specs.Clips.{truth_of};
 ghost use Rattle.promise.specs.Calls.{Owed};

@@ -1,5 +1,7 @@
 // The calls fresh, tell, answer, next and open_pairs. None has a requires: any class count, tally, table and class
 // numbers get an answer or a refusal.
+#![tactic(auto)]
+
 mod facts;
 mod replies;
 

@@ -1,4 +1,6 @@
 // The refusals with which every call but fresh and reading starts, the soundness of the table among them.
+#![tactic(auto)]
+
 mod sound;
 
 ghost use Rattle.std.specs.Prelude.{◌≡◌, []};

@@ -1,4 +1,6 @@
 // The heads of the classes and the direct steps between them.
+#![tactic(auto)]
+
 mod direct;
 mod heads;
 mod thirds;

@@ -1,4 +1,6 @@
 // Random calls of the library, by docs/SWEEP.md: the seed says which, and every answer is printed.
+#![tactic(auto)]
+
 mod answers;
 mod calls;
 mod draw;

@@ -1,6 +1,8 @@
 // The worked marks of document 01, and clips, run one by one. The file `stdin` says which calls to make, one to a line;
 // what each gives is printed, one line a call. The stored output is worked out by hand from those marks and the
 // documents' rules. It is not taken from this program.
+#![tactic(auto)]
+
 mod calls;
 mod script;
 mod shown;

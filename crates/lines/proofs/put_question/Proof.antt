@@ -1,7 +1,7 @@
 -- `lines::put_question` meets its contract: the pair asked about is the first open one.
 -- Assumes nothing.
 use native.Mathlib.Omega.{arith}
-use lib.ListN.{length_append}
+use lib.ListN.{length-append}
 use Rattle.lines.proofs.Saying.{asked_first, question_short, never_done, never_refused}
 use borrow.Author.Rules.{rules}
 use Rattle.lines.proofs.put_question.Statement.{statement}
@@ -16,7 +16,7 @@ put-line-requires c κs =
     question_short start.args.session start.requires.0
     (asked_first _ _ asked.next.ensures question.question.given.1)
     in
-    simp length_append (omega (arith, start.requires.2))
+    simp length-append (omega (arith, start.requires.2))
 
 enum_told : tie.Need-enum-told
 enum_told c = search rules

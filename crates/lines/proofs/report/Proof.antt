@@ -2,7 +2,7 @@
 -- Assumes nothing.
 use mathlib.Core.Path.{sym, ◌∙◌}
 use native.Mathlib.Omega.{arith}
-use lib.ListN.{length_append}
+use lib.ListN.{length-append}
 use Rattle.buffers.proofs.Decimals.{decimal_longest}
 use Rattle.lines.proofs.Saying.{counts_short, reported_refused, reported_settled, reported_open}
 use borrow.Author.Rules.{rules}
@@ -12,7 +12,7 @@ use Rattle.lines.proofs.report.Tie as tie
 put-line-requires : tie.Need-put-line-requires
 put-line-requires c κs =
     let reply = c.before.before.before.before.before.before.before.before.args.reply in
-    simp length_append
+    simp length-append
     (omega (arith, decimal_longest reply.number (omega arith), decimal_longest reply.place (omega arith)))
 
 returns : tie.Need-returns
@@ -28,7 +28,7 @@ put-counts-requires c κs =
     let accepted = opened.before.before in
     let start = accepted.before.before.before.before.before.before in
     let counts = counts_short start.requires accepted.if1.false opened.opened.ensures in
-    simp length_append (omega (arith, start.requires.text_room))
+    simp length-append (omega (arith, start.requires.text_room))
 
 put-settled-requires : tie.Need-put-settled-requires
 put-settled-requires c κs =
@@ -47,7 +47,7 @@ put-settled-requires c κs =
             arith,
             start.requires.text_room,
             counts.put-counts.auto.0,
-            simp length_append at counts.put-counts.ensures.ends,
+            simp length-append at counts.put-counts.ensures.ends,
             counts_short start.requires accepted.if1.false opened.opened.ensures,
           );
     }
@@ -74,7 +74,7 @@ put-question-requires c κs =
         arith,
         start.requires.text_room,
         counts.put-counts.auto.0,
-        simp length_append at counts.put-counts.ensures.ends,
+        simp length-append at counts.put-counts.ensures.ends,
         counts_short start.requires accepted.if1.false opened.opened.ensures,
       ),
     )

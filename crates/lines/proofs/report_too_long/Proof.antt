@@ -1,7 +1,7 @@
 -- `lines::report_too_long` meets its contract: a line with a number of two digits and one of five fits.
 -- Assumes nothing.
 use native.Mathlib.Omega.{arith}
-use lib.ListN.{length_append}
+use lib.ListN.{length-append}
 use Rattle.buffers.proofs.Decimals.{decimal_written}
 use borrow.Author.Rules.{rules}
 use Rattle.lines.proofs.report_too_long.Statement.{statement}
@@ -9,7 +9,7 @@ use Rattle.lines.proofs.report_too_long.Tie as tie
 
 put-line-requires : tie.Need-put-line-requires
 put-line-requires c κs =
-    simp length_append
+    simp length-append
     (omega (
       arith,
       (decimal_written 15).short 2 (omega arith) (omega arith),

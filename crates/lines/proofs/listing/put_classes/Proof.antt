@@ -3,7 +3,7 @@
 use mathlib.Core.Path.{◌≡◌}
 use Prim.Native.Nat.{◌-◌, ◌≤◌}
 use native.Mathlib.Omega.{arith}
-use lib.ListN.{get_or, take, length_append}
+use lib.ListN.{get_or, take, length-append}
 use Rattle.lines.specs.Lines.{class_lines}
 use Rattle.buffers.proofs.Placing.{put_length}
 use Rattle.lines.specs.Put.{LinesPut}
@@ -32,7 +32,7 @@ put-line-requires c κs =
     let l = c.before.before.before.loop in
     let start = c.before.before.before.before.before.before in
     let head = c.shared-slice-known2.given l.i in
-    simp length_append
+    simp length-append
     (omega (
       arith,
       start.requires.2,

@@ -3,7 +3,7 @@
 use mathlib.Core.Path.{◌≡◌}
 use Prim.Native.Nat.{◌+◌, ◌*◌, ◌-◌, ◌≤◌}
 use native.Mathlib.Omega.{arith}
-use lib.ListN.{get_or, length_append}
+use lib.ListN.{get_or, length-append}
 use Rattle.lines.specs.Lines.{step_lines}
 use Rattle.lines.specs.Put.{LinesPut, pairs_in}
 use Rattle.buffers.proofs.Placing.{put_length}
@@ -50,7 +50,7 @@ put-line-requires c κs =
     let i = l.loop.i in
     let lower = c.before.before.shared-slice-known2.given (2 * i) in
     let upper = c.before.shared-slice-known3.given (2 * i + 1) in
-    simp length_append
+    simp length-append
     (omega (
       arith,
       start.requires.1,

@@ -1,20 +1,20 @@
 -- `lines::text::put_counts` meets its contract: each part stands behind the one before it.
 -- Assumes nothing.
 use native.Mathlib.Omega.{arith}
-use lib.ListN.{length_append}
+use lib.ListN.{length-append}
 use Rattle.buffers.proofs.Placing.{put_then}
 use borrow.Author.Rules.{rules}
 use Rattle.lines.proofs.text.put_counts.Statement.{statement}
 use Rattle.lines.proofs.text.put_counts.Tie as tie
 
 put-labelled-requires : tie.Need-put-labelled-requires
-put-labelled-requires c κs = omega (arith, simp length_append at c.before.before.requires)
+put-labelled-requires c κs = omega (arith, simp length-append at c.before.before.requires)
 
 put-further-requires : tie.Need-put-further-requires
 put-further-requires c κs =
     let first = c.before.before.before in
     let start = first.before.before.before in
-    omega (arith, simp length_append at start.requires, first.put-labelled.ensures.ends, first.put-labelled.auto.0)
+    omega (arith, simp length-append at start.requires, first.put-labelled.ensures.ends, first.put-labelled.auto.0)
 
 put-further-requires-2 : tie.Need-put-further-requires-2
 put-further-requires-2 c κs =
@@ -23,7 +23,7 @@ put-further-requires-2 c κs =
     let start = first.before.before.before in
     omega (
       arith,
-      simp length_append at start.requires,
+      simp length-append at start.requires,
       first.put-labelled.ensures.ends,
       first.put-labelled.auto.0,
       second.put-further.ensures.ends,
@@ -38,7 +38,7 @@ put-byte-requires c κs =
     let start = first.before.before.before in
     omega (
       arith,
-      simp length_append at start.requires,
+      simp length-append at start.requires,
       first.put-labelled.ensures.ends,
       first.put-labelled.auto.0,
       second.put-further.ensures.ends,
