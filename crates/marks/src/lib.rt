@@ -9,7 +9,7 @@ pub use single::{index, is_marked, mark_of, under};
 pub use whole::{count_open, first_open, fresh_marks};
 
 // The three marks, and the bytes that they are.
-#[derive(Drop)]
+#[derive(Clone, Copy)]
 pub enum Mark {
     Open,
     Yes,

@@ -5,7 +5,7 @@ ghost use Rattle.printing.specs.Answers.{Held};
 use libc::STDIN_FILENO;
 
 // What came of reading: how many bytes there are, and whether a read failed.
-#[derive(Drop)]
+#[derive(Clone, Copy)]
 pub struct Filled {
     pub count: usize,
     pub failed: bool,
@@ -45,7 +45,7 @@ pub fn fill(input: &mut [u8]) -> Filled
 
 // What standard input gave: how many bytes stand at the front of the buffer, how many came behind a full one, and
 // whether a read failed.
-#[derive(Drop)]
+#[derive(Clone, Copy)]
 pub struct Gathered {
     pub count: usize,
     pub behind: usize,

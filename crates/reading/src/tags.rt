@@ -7,7 +7,7 @@ use promise::{ANSWERS, CLASS_COUNT, NO_FACTS, Stage, YES_FACTS};
 
 // The row of a tag: whether it has one; whether its contents are the class count, with which a book begins; and of
 // facts the bytes that each has, whether they are answers, and the verdict of those that are told.
-#[derive(Drop)]
+#[derive(Clone, Copy)]
 pub struct Row {
     pub known: bool,
     pub begins: bool,

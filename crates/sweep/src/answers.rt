@@ -2,7 +2,7 @@
 use promise::{Counted, Question};
 
 // What next gives: a refusal, a pair that it asks about, or neither.
-#[derive(Drop)]
+#[derive(Clone, Copy)]
 pub struct Asked {
     pub number: u8,
     pub place: usize,
@@ -12,7 +12,7 @@ pub struct Asked {
 }
 
 // What open_pairs, hierarchy, ladder and write give. A count is 0 where the call is refused.
-#[derive(Drop)]
+#[derive(Clone, Copy)]
 pub struct CountLine {
     pub number: u8,
     pub place: usize,

@@ -42,7 +42,7 @@ pub fn draw_verdict(state: &mut usize) -> bool {
 }
 
 // What tell and answer are given.
-#[derive(Drop)]
+#[derive(Clone, Copy)]
 pub struct Fact {
     pub lower: usize,
     pub upper: usize,
@@ -76,7 +76,7 @@ pub fn draw_lent(state: &mut usize, few: usize, most: usize, more: usize) -> usi
 }
 
 // How many bytes of heads and of steps hierarchy is lent.
-#[derive(Drop)]
+#[derive(Clone, Copy)]
 pub struct Rooms {
     pub heads: usize,
     pub steps: usize,
@@ -94,7 +94,7 @@ pub fn draw_rooms(state: &mut usize, n: usize) -> Rooms
 }
 
 // Between which classes ladder goes, and how many bytes of heads it is lent.
-#[derive(Drop)]
+#[derive(Clone, Copy)]
 pub struct Rungs {
     pub lower: usize,
     pub upper: usize,

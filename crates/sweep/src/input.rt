@@ -4,7 +4,7 @@ const MODULUS: usize = 1000000007;
 
 // The numbers as far as they are read. The phase is 1, 3 and 5 within the three runs of digits, 0 before, 2 and 4
 // between and 6 behind them.
-#[derive(Drop)]
+#[derive(Clone, Copy)]
 pub struct Input {
     pub seed: usize,
     pub rounds: usize,

@@ -14,7 +14,7 @@ pub const BOOK: usize = 32778;
 
 // The state of the draws, the length of the book last written, the session, and the five buffers; besides, what the
 // call to come is given, and what the last one said: whether it was accepted, and whether it asked.
-#[derive(Drop)]
+#[derive(Clone, Copy)]
 pub struct Kept {
     pub state: usize,
     pub length: usize,
@@ -31,7 +31,7 @@ pub struct Kept {
 
 // What a call is given: a session, and so many bytes of the table, of which one may be changed for it. Its place is
 // past the table where none is; byte is its new value before the change and its old one after it.
-#[derive(Drop)]
+#[derive(Clone, Copy)]
 pub struct Given {
     pub session: Session,
     pub lent: usize,
@@ -40,7 +40,7 @@ pub struct Given {
 }
 
 // What stays for a whole round: the class count, and how many bytes of table and spare are lent.
-#[derive(Drop)]
+#[derive(Clone, Copy)]
 pub struct Sizes {
     pub n: usize,
     pub lent: usize,

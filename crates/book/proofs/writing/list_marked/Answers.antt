@@ -1,0 +1,58 @@
+-- `book::writing::list_marked` meets its contract: the pairs passed that have the mark are noted.
+-- Assumes nothing.
+use mathlib.Core.Path.{sym, ◌∙◌}
+use mathlib.Core.Logic.{⊎_elim}
+use mathlib.Core.Bool.{false≢true}
+use Prim.Native.Nat.{◌-◌, ◌≤◌, ◌<◌}
+use native.Mathlib.Omega.{arith}
+use borrow.Author.Rules.{rules}
+use Rattle.promise.proofs.Write.{Off, dec_off}
+use Rattle.buffers.proofs.Noting.{SoFar, Along, so_far_none, along_none, few, hit, miss, row_end, all_noted}
+use Rattle.book.proofs.writing.list_marked.Goals as goal
+use Rattle.book.proofs.writing.list_marked.Goals.{In-loop-b}
+
+-- the pairs noted so far are few
+so-few : (c : In-loop-b) → c.loop-b.count < 16384
+so-few c =
+    few (c.loop-b.invariant.1.carry _ c.loop-a.invariant.1) c.requires.few (omega arith)
+    (omega arith)
+
+pub loop-a-init : goal.loop-a-init
+loop-a-init c = (omega arith, so_far_none _)
+
+pub loop-b-init : goal.loop-b-init
+loop-b-init c = (omega arith, along_none)
+
+pub overflow_mul-count : goal.overflow_mul-count
+overflow_mul-count c = omega (arith, so-few (goal.at.overflow_mul-count c).In-loop-b)
+
+pub put_pair-requires : goal.put_pair-requires
+put_pair-requires c = (
+  omega (arith, so-few (goal.at.put_pair-requires c).In-loop-b),
+  omega (arith, c.requires.few),
+  omega (arith, c.requires.few),
+)
+
+pub overflow_add-count : goal.overflow_add-count
+overflow_add-count c = omega (arith, so-few (goal.at.overflow_add-count c).In-loop-b)
+
+pub loop-b-preserved : goal.loop-b-preserved
+loop-b-preserved c = (
+  omega arith,
+  record {
+    carry = λ out h.
+        let s = c.loop-b.invariant.1.carry out h in
+        ⊎_elim
+        (λ w. rw (w.7, w.8) (hit s (w.0.taken, w.1.ensures.0 w.2.taken) w.4.kept.0 w.4.ensures))
+        (⊎_elim (λ w. rw (w.3, w.4) (miss s (λ p. false≢true (sym w.2.left ∙ w.1.ensures.1 p.1))))
+        (λ w. rw (w.1, w.2) (miss s (λ p. p.0 w.0.left)))) c.if-a-b.branch;
+  },
+)
+
+pub loop-a-preserved : goal.loop-a-preserved
+loop-a-preserved c =
+    let s = c.loop-b.invariant.1.carry _ c.loop-a.invariant.1 in
+    (omega arith, row_end s (omega arith))
+
+pub returns : goal.returns
+returns c = all_noted (omega arith) c.loop-a.invariant.1

@@ -1,0 +1,8 @@
+-- `buffers::bytes::put_byte` meets its contract.
+-- Assumes nothing.
+use Rattle.buffers.proofs.Placing.{put_one}
+use borrow.Author.Rules.{rules}
+use Rattle.buffers.proofs.bytes.put_byte.Goals as goal
+
+pub returns : goal.returns
+returns c = put_one c.args.byte c.requires

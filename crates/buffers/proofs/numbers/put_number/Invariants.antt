@@ -1,0 +1,25 @@
+-- `buffers::numbers::put_number` meets its contract: behind the digits that are left stand the others.
+-- Assumes nothing.
+use mathlib.Core.Path.{◌≡◌, sym, ◌∙◌, ap}
+use mathlib.Core.List.{List, [], ◌∷◌, ◌++◌, append_assoc, append-nil}
+use Prim.Native.Nat.{ℕ, ◌+◌, ◌-◌, ◌/◌, ◌%◌, ◌<◌, ◌≤◌}
+use native.Mathlib.Omega.{arith}
+use lib.ListN.{length, set, length-set}
+use Rattle.buffers.specs.Placed.{Put}
+use Rattle.buffers.specs.Decimal.{digit_0, decimal}
+use Rattle.buffers.proofs.Placing.{put_none, put_one, put_before, put_length}
+use Rattle.buffers.proofs.Decimals.{decimal_one, decimal_more, one_longer, decimal_written}
+use Rattle.buffers.proofs.numbers.put_number.Given as goal
+
+-- the digits of rest are still to be put before index left; those of the number behind them stand there
+pub record Left (number at behind : ℕ) (out₀ out : List ℕ) (left rest : ℕ) : Type 0 where
+  pub others : List ℕ
+  pub whole : decimal number ≡ decimal rest ++ others
+  pub stands : left ≡ at + length (decimal rest)
+  pub put : Put others left out₀ behind out
+
+abbrev pub invariant-loop-rest : goal.invariant-loop-rest
+invariant-loop-rest l = Left l.number l.at l.behind l.initial.out l.out l.left l.rest
+
+abbrev pub decreases-loop-rest : goal.decreases-loop-rest
+decreases-loop-rest l = l.rest

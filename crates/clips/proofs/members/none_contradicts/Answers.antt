@@ -1,0 +1,35 @@
+-- `clips::members::none_contradicts` meets its contract: class by class.
+-- Assumes nothing.
+use mathlib.Core.Path.{refl, sym, ◌∙◌}
+use mathlib.Core.Logic.{⊎_elim}
+use mathlib.Core.Bool.{false≢true}
+use Prim.Native.Nat.{◌-◌}
+use native.Mathlib.Omega.{arith}
+use borrow.Author.Rules.{rules}
+use Rattle.promise.specs.Clips.{Flagged}
+use Rattle.marks.proofs.Answers.{granted, denied, never}
+use Rattle.marks.proofs.Upto.{Upto, none, more, all}
+use Rattle.clips.specs.Seen.{UnderMembers}
+use Rattle.clips.proofs.Seen.{all_agree, one_agrees}
+use Rattle.clips.proofs.members.none_contradicts.Goals as goal
+
+pub loop-class-init : goal.loop-class-init
+loop-class-init c = none
+
+pub bounds-played-class : goal.bounds-played-class
+bounds-played-class c = omega (arith, c.requires.few)
+
+pub returns-then-not-agrees : goal.returns-then-not-agrees
+returns-then-not-agrees c =
+    never (λ h.
+    denied c.if-not-agrees.true c.under_members-agrees.ensures
+    (one_agrees h c.loop-class-test.true c.if-played-class.true))
+
+pub loop-class-preserved : goal.loop-class-preserved
+loop-class-preserved c =
+    more c.loop-class-test.true c.loop-class.invariant
+    (⊎_elim (λ w _. granted w.2.left w.1.ensures) (λ w p. absurd (false≢true (sym w.left ∙ p)))
+    c.if-played-class.branch)
+
+pub returns : goal.returns
+returns c = (λ _. all_agree (all c.loop-class-test.false c.loop-class.invariant), λ _. refl)

@@ -1,0 +1,16 @@
+-- `lines::report_too_long` meets its contract: a line with a number of two digits and one of five fits.
+-- Assumes nothing.
+use native.Mathlib.Omega.{arith}
+use lib.ListN.{length-append}
+use Rattle.buffers.proofs.Decimals.{decimal_written}
+use borrow.Author.Rules.{rules}
+use Rattle.lines.proofs.report_too_long.Goals as goal
+
+pub put_line-requires : goal.put_line-requires
+put_line-requires c =
+    simp length-append
+    (omega (
+      arith,
+      (decimal_written 15).short 2 (omega arith) (omega arith),
+      (decimal_written 32768).short 5 (omega arith) (omega arith),
+    ))

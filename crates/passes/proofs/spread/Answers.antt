@@ -1,0 +1,32 @@
+-- `passes::spread` meets its contract: row by row.
+-- Assumes nothing.
+use mathlib.Core.Path.{sym, ◌∙◌}
+use mathlib.Core.Logic.{⊎_elim}
+use mathlib.Core.Bool.{false≢true}
+use Prim.Native.Nat.{◌-◌}
+use native.Mathlib.Omega.{arith}
+use borrow.Author.Rules.{rules}
+use Rattle.marks.proofs.Shape.{shape_kept}
+use Rattle.passes.proofs.Pass.{Rows, rows_start, rows_flagged, rows_over, rows_end}
+use Rattle.passes.proofs.spread.Goals as goal
+
+pub loop-x-init : goal.loop-x-init
+loop-x-init c = rows_start
+
+pub bounds-xs-x : goal.bounds-xs-x
+bounds-xs-x c = omega (arith, c.requires.few)
+
+pub mark_row-requires : goal.mark_row-requires
+mark_row-requires c =
+    (shape_kept c.requires c.loop-x.invariant.spread.rest, c.loop-x-test.true)
+
+pub loop-x-preserved : goal.loop-x-preserved
+loop-x-preserved c =
+    let h = c.loop-x.invariant in
+    ⊎_elim
+    (λ w. rw w.5 (rows_flagged h c.loop-x-test.true w.0.taken w.2.ensures))
+    (λ w. rw w.1 (rows_over h c.loop-x-test.true (λ f. false≢true (sym w.0.left ∙ f))))
+    c.if-xs-x.branch
+
+pub returns : goal.returns
+returns c = rows_end c.loop-x-test.false c.loop-x.invariant

@@ -1,0 +1,16 @@
+-- `reading::read` meets its contract: the fields from here on follow all of them.
+-- Assumes nothing.
+use mathlib.Core.Path.{◌∙◌}
+use Prim.Native.Nat.{◌+◌, ◌-◌, ◌≤◌}
+use native.Mathlib.Omega.{arith}
+use borrow.Author.Rules.{rules}
+use lib.ListN.{length}
+use Rattle.reading.proofs.Advance.{FieldsLeft, fields_left, read_empty, field_ready, book_refused, next_within}
+use Rattle.reading.proofs.Advance.{fields_next, book_read}
+use Rattle.reading.proofs.read.Given as goal
+
+abbrev pub invariant-loop-at : goal.invariant-loop-at
+invariant-loop-at l = FieldsLeft l.book l.initial.table l.at l.stage l.session l.table
+
+abbrev pub decreases-loop-at : goal.decreases-loop-at
+decreases-loop-at l = length l.book - l.at

@@ -1,0 +1,76 @@
+-- `session::facts::take_fact` meets its contract: by class numbers, then by the mark.
+-- Assumes nothing.
+use mathlib.Core.Path.{refl, ◌∙◌, ap}
+use mathlib.Core.Logic.{inl, inr}
+use native.Mathlib.Omega.{arith}
+use Rattle.session.specs.Facts.{kind_of}
+use Rattle.promise.proofs.Standing.{stood, square}
+use Rattle.marks.specs.Shape.{byte_of}
+use Rattle.marks.proofs.Shape.{shaped}
+use Rattle.passes.specs.Taken.{OpenPair}
+use Rattle.session.proofs.Takes.{no_such_class_owed, judged_yes, judged_no, open_taken}
+use borrow.Author.Rules.{rules}
+use Rattle.session.proofs.facts.take_fact.Goals as goal
+use Rattle.session.proofs.facts.take_fact.Goals.{After-enum-told3}
+
+-- in the third arm the pair is open
+opened :
+    (e : After-enum-told3)
+    → let a = e.args in
+    OpenPair a.session.classes a.table.now a.lower a.upper
+opened e =
+    let st = stood _ _ 0 e.requires refl in
+    record {
+      shape = shaped st;
+      sound = st.sound;
+      lower_below = e.if-n-lower.false;
+      upper_below = e.if-n-upper.false;
+      is_open = e.mark_of-mark.ensures ∙ ap byte_of e.in-Open.is;
+    }
+
+pub returns-then-n-lower : goal.returns-then-n-lower
+returns-then-n-lower c =
+    rw c.refused.ensures (no_such_class_owed (kind_of c.args.counts) (stood _ _ 0 c.requires refl) _ _ _
+    (inl c.if-n-lower.true))
+
+pub returns-then-n-upper : goal.returns-then-n-upper
+returns-then-n-upper c =
+    rw c.refused-then-n-upper.ensures (no_such_class_owed (kind_of c.args.counts) (stood _ _ 0 c.requires refl) _ _ _
+    (inr c.if-n-upper.true))
+
+pub mark_of-mark-requires : goal.mark_of-mark-requires
+mark_of-mark-requires c =
+    let st = stood _ _ 0 c.requires refl in (
+      shaped st,
+      c.if-n-lower.false,
+      c.if-n-upper.false,
+      st.sound.small _ _
+          c.if-n-lower.false c.if-n-upper.false,
+    )
+
+pub take_in-requires : goal.take_in-requires
+take_in-requires c = opened (goal.at.take_in-requires c).After-enum-told3
+
+pub tested-requires : goal.tested-requires
+tested-requires c =
+    let st = stood _ _ 0 c.requires refl in
+    omega (arith, st.count, square _ st.few, st.some)
+
+pub returns-in-Yes : goal.returns-in-Yes
+returns-in-Yes c =
+    judged_yes (kind_of c.args.counts) (stood _ _ 0 c.requires refl) _ _
+    c.if-n-lower.false c.if-n-upper.false _
+    (c.mark_of-mark.ensures ∙ ap byte_of c.in-Yes.is) c.judge.ensures
+
+pub returns-in-No : goal.returns-in-No
+returns-in-No c =
+    judged_no (kind_of c.args.counts) (stood _ _ 0 c.requires refl) _ _
+    c.if-n-lower.false c.if-n-upper.false _
+    (c.mark_of-mark.ensures ∙ ap byte_of c.in-No.is) c.judge-in-No.ensures
+
+pub returns-in-Open : goal.returns-in-Open
+returns-in-Open c =
+    rw (c.accepted.ensures, c.tested.ensures)
+    (open_taken c.args.counts c.args.holds c.args.session c.args.table.now _ _ _
+    (stood _ _ 0 c.requires refl)
+    (opened (goal.at.returns-in-Open c).After-enum-told3) c.take_in.ensures)

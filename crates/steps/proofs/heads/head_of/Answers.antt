@@ -1,0 +1,34 @@
+-- `steps::heads::head_of` meets its contract: a is equal to itself, and each class passed is compared with the lowest
+-- so far.
+-- Assumes nothing.
+use mathlib.Core.Logic.{⊎_elim}
+use Prim.Native.Nat.{◌-◌}
+use native.Mathlib.Omega.{arith}
+use borrow.Author.Rules.{rules}
+use Rattle.promise.specs.Hierarchy.{Equal}
+use Rattle.marks.proofs.Answers.{refuted}
+use Rattle.steps.proofs.Lowest.{Lowest, lowest_none, lowest_pass, lowest_keep, lowest_take, lowest_least}
+use Rattle.steps.proofs.Lowest.{lowest_has}
+use Rattle.steps.proofs.heads.head_of.Goals as goal
+
+pub loop-c-init : goal.loop-c-init
+loop-c-init c =
+    let p = c.requires in
+    let same = p.0.sound.diagonal _ p.1 in
+    lowest_none (λ _. (same, same))
+
+pub loop-c-preserved : goal.loop-c-preserved
+loop-c-preserved c =
+    let h = c.loop-c.invariant in
+    let same = c.equal-same.ensures in
+    ⊎_elim (λ w. rw w.2 (lowest_take (omega arith) h (same.0 w.0.taken) w.1.taken))
+    (⊎_elim (λ w. rw w.2 (lowest_keep (omega arith) h w.1.left))
+    (λ w. rw w.1 (lowest_pass (omega arith) h (refuted w.0.left same)))) c.if-same.branch
+
+pub returns : goal.returns
+returns c =
+    let p = c.requires in
+    let h = c.loop-c.invariant in
+    let same = p.0.sound.diagonal _ p.1 in
+    let found = lowest_has c.loop-c-test.false h p.1 (same, same) in
+    record { below = found.0; equal = found.1; lowest = lowest_least c.loop-c-test.false h }

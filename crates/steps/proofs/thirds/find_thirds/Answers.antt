@@ -1,0 +1,36 @@
+-- `steps::thirds::find_thirds` meets its contract: the flags show the third heads among the classes passed.
+-- Assumes nothing.
+use mathlib.Core.Logic.{⊎_elim}
+use Prim.Native.Nat.{◌-◌}
+use native.Mathlib.Omega.{arith}
+use borrow.Author.Rules.{rules}
+use borrow.Author.Tests.{not-false}
+use Rattle.marks.proofs.Answers.{refuted}
+use Rattle.steps.proofs.Between.{ThirdsBelow, thirds_none, thirds_add, thirds_pass, thirds_known, thirds_all}
+use Rattle.steps.proofs.thirds.find_thirds.Goals as goal
+
+pub loop-c-init : goal.loop-c-init
+loop-c-init c = thirds_none c.requires.2
+
+pub bounds-thirds-c : goal.bounds-thirds-c
+bounds-thirds-c c =
+    omega (arith, c.loop-c-test.true, c.requires.2.room, c.loop-c.invariant.size)
+
+pub add_third-requires : goal.add_third-requires
+add_third-requires c =
+    let p = c.requires in
+    (p.0.table.shape, c.loop-c-test.true, omega (arith, p.2.room, c.loop-c.invariant.size))
+
+pub loop-c-preserved : goal.loop-c-preserved
+loop-c-preserved c =
+    let h = c.loop-c.invariant in
+    let above = c.is_above-above.ensures in
+    let sound = c.requires.0.table.sound in
+    ⊎_elim
+    (λ w. rw w.7 (thirds_add (omega arith) h (above.0 w.0.taken) w.4.kept.1.1.1.0 w.4.ensures))
+    (⊎_elim (λ w. rw w.3 (thirds_known (omega arith) h sound (not-false _ w.2.left)))
+    (λ w. rw w.1 (thirds_pass (omega arith) h (refuted w.0.left above)))) c.if-above.branch
+
+pub returns : goal.returns
+returns c = thirds_all c.requires.2.room c.loop-c-test.false
+    c.loop-c.invariant
