@@ -19,7 +19,7 @@ module _
     room : (at < left) × (left ≤ length out)
     room =
         let p = h.put in
-        (omega (arith, h.stands, (decimal_written rest).some), omega (arith, p.ends, p.ranges, put_length p))
+        (omega (arith, h.stands, (decimal_written rest).some), omega (arith, p.ends, p.fits, put_length p))
 
     one-put : 10 ≤ rest → Left number at behind out₀ (set out (left - 1) (digit_0 + rest % 10)) (left - 1) (rest / 10)
     one-put more =

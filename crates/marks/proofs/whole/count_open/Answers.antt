@@ -11,6 +11,7 @@ use Rattle.order.specs.Tables.{open_count, opens_to}
 use Rattle.order.proofs.Counts.{open_settled}
 use Rattle.promise.proofs.Standing.{square}
 use Rattle.marks.proofs.whole.count_open.Goals as goal
+use Rattle.marks.proofs.whole.count_open.Goals.{then-table-i-eq-OPEN, else-table-i-eq-OPEN}
 use Rattle.marks.proofs.whole.count_open.Invariants.{Counted}
 
 none : (t : List ℕ) → Counted t 0 0
@@ -46,9 +47,10 @@ pub loop-i-preserved : goal.loop-i-preserved
 loop-i-preserved c =
     let t = c.args.table.now in (
       omega arith,
-      ⊎_elim (λ w. rw w.1 (one_more t _ _ c.loop-i.invariant.1 w.0.taken))
-          (λ w. rw w.1 (none_more t _ _ c.loop-i.invariant.1 w.0.left))
-          c.if-table-i-eq-OPEN.branch,
+      elim c.if-table-i-eq-OPEN.branch [
+        then-table-i-eq-OPEN w ↦ rw w.count-is (one_more t _ _ c.loop-i.invariant.1 w.if-table-i-eq-OPEN.true)
+        | else-table-i-eq-OPEN w ↦ rw w.count-is (none_more t _ _ c.loop-i.invariant.1 w.if-table-i-eq-OPEN.false)
+      ],
     )
 
 pub returns : goal.returns
