@@ -11,7 +11,7 @@ use Rattle.marks.proofs.Shape.{along, shape_kept}
 use Rattle.promise.proofs.Standing.{square}
 use Rattle.passes.proofs.Pass.{Row, row_start, row_flagged, row_over, row_end}
 use Rattle.passes.proofs.mark_row.Goals as goal
-use Rattle.passes.proofs.mark_row.Goals.{In-loop-y}
+use Rattle.passes.proofs.mark_row.Goals.{In-loop-y, then-ys-y, else-ys-y}
 
 -- the mark at hand, and the table's shape
 here :
@@ -45,10 +45,11 @@ bounds-table-i-in-loop-y c = omega (arith, (here (goal.at.bounds-table-i-in-loop
 pub loop-y-preserved : goal.loop-y-preserved
 loop-y-preserved c =
     let h = c.loop-y.invariant in
-    ⊎_elim
-    (λ w. rw w.1 (row_flagged h c.loop-y-test.true w.0.taken (shape (goal.at.loop-y-preserved c).In-loop-y) (here (goal.at.loop-y-preserved c).In-loop-y)))
-    (λ w. row_over h c.loop-y-test.true _ w.1 (λ f. false≢true (sym w.0.left ∙ f)))
-    c.if-ys-y.branch
+    let l = (goal.at.loop-y-preserved c).In-loop-y in
+    elim c.if-ys-y.branch [
+      then-ys-y w ↦ rw w.table-is (row_flagged h c.loop-y-test.true w.if-ys-y.true (shape l) (here l))
+      | else-ys-y w ↦ row_over h c.loop-y-test.true _ w.table-is (λ f. false≢true (sym w.if-ys-y.false ∙ f))
+    ]
 
 pub returns : goal.returns
 returns c = row_end c.loop-y-test.false c.loop-y.invariant

@@ -9,6 +9,7 @@ use borrow.Author.Rules.{rules}
 use Rattle.marks.proofs.Shape.{shape_kept}
 use Rattle.passes.proofs.Pass.{Rows, rows_start, rows_flagged, rows_over, rows_end}
 use Rattle.passes.proofs.spread.Goals as goal
+use Rattle.passes.proofs.spread.Goals.{then-xs-x, else-xs-x}
 
 pub loop-x-init : goal.loop-x-init
 loop-x-init c = rows_start
@@ -23,10 +24,10 @@ mark_row-requires c =
 pub loop-x-preserved : goal.loop-x-preserved
 loop-x-preserved c =
     let h = c.loop-x.invariant in
-    ⊎_elim
-    (λ w. rw w.5 (rows_flagged h c.loop-x-test.true w.0.taken w.2.ensures))
-    (λ w. rw w.1 (rows_over h c.loop-x-test.true (λ f. false≢true (sym w.0.left ∙ f))))
-    c.if-xs-x.branch
+    elim c.if-xs-x.branch [
+      then-xs-x w ↦ rw w.table-is (rows_flagged h c.loop-x-test.true w.if-xs-x.true w.mark_row.ensures)
+      | else-xs-x w ↦ rw w.table-is (rows_over h c.loop-x-test.true (λ f. false≢true (sym w.if-xs-x.false ∙ f)))
+    ]
 
 pub returns : goal.returns
 returns c = rows_end c.loop-x-test.false c.loop-x.invariant
