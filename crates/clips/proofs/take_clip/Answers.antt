@@ -5,7 +5,7 @@ use Rattle.order.proofs.Decide.{stable}
 use Rattle.promise.proofs.Standing.{Stands, stood}
 use Rattle.promise.proofs.Clips.{dec_beyond, dec_clip_contradicts}
 use Rattle.marks.proofs.Shape.{shaped}
-use Rattle.marks.proofs.Answers.{granted, denied}
+use Rattle.marks.proofs.Answers.{refuted, granted}
 use borrow.Author.Rules.{rules}
 use Rattle.clips.proofs.Taken.{clip_beyond, clip_contradicted, clip_taken}
 use Rattle.clips.proofs.take_clip.Goals as goal
@@ -18,7 +18,7 @@ stands c = stood _ _ 0 c.requires refl
 pub returns-then-not-below : goal.returns-then-not-below
 returns-then-not-below c =
     rw c.refused.ensures (clip_beyond (stands (goal.at.returns-then-not-below c).Start)
-    (stable (dec_beyond _ _) (denied c.if-not-below.true c.none_beyond-below.ensures)))
+    (stable (dec_beyond _ _) (refuted c.if-not-below.true c.none_beyond-below.ensures)))
 
 pub none_contradicts-agrees-requires : goal.none_contradicts-agrees-requires
 none_contradicts-agrees-requires c = shaped (stands (goal.at.none_contradicts-agrees-requires c).Start)
@@ -27,7 +27,7 @@ pub returns-then-not-agrees : goal.returns-then-not-agrees
 returns-then-not-agrees c =
     rw c.refused-then-not-agrees.ensures
     (clip_contradicted (stands (goal.at.returns-then-not-agrees c).Start) (granted c.if-not-below.false c.none_beyond-below.ensures)
-    (stable (dec_clip_contradicts _ _ _) (denied c.if-not-agrees.true c.none_contradicts-agrees.ensures)))
+    (stable (dec_clip_contradicts _ _ _) (refuted c.if-not-agrees.true c.none_contradicts-agrees.ensures)))
 
 pub non_members-others-requires : goal.non_members-others-requires
 non_members-others-requires c = (stands (goal.at.non_members-others-requires c).Start).few

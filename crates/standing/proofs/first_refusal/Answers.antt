@@ -8,7 +8,7 @@ use native.Mathlib.Omega.{arith}
 use borrow.Author.Rules.{rules}
 use Rattle.order.specs.Tables.{Sound}
 use Rattle.promise.proofs.Standing.{square_above, square}
-use Rattle.marks.proofs.Answers.{granted, denied}
+use Rattle.marks.proofs.Answers.{refuted, granted}
 use Rattle.standing.proofs.first_refusal.Goals as goal
 use Rattle.standing.proofs.first_refusal.Goals.{Else-n-gt-MOST_CLASSES, Else-not-sound}
 
@@ -39,7 +39,7 @@ returns-then-not-sound c =
       range (goal.at.returns-then-not-sound c).Else-n-gt-MOST_CLASSES,
       inr (
         λ l. omega arith,
-        inl (denied c.if-not-sound.true c.is_sound-sound.ensures, refl),
+        inl (refuted c.if-not-sound.true c.is_sound-sound.ensures, refl),
       ),
     )
 

@@ -7,7 +7,7 @@ use Prim.Native.Nat.{◌-◌}
 use native.Mathlib.Omega.{arith}
 use borrow.Author.Rules.{rules}
 use Rattle.promise.specs.Clips.{Flagged}
-use Rattle.marks.proofs.Answers.{granted, denied, never}
+use Rattle.marks.proofs.Answers.{refuted, granted, never}
 use Rattle.marks.proofs.Upto.{Upto, none, more, all}
 use Rattle.clips.specs.Seen.{UnderMembers}
 use Rattle.clips.proofs.Seen.{all_agree, one_agrees}
@@ -22,7 +22,7 @@ bounds-played-class c = omega (arith, c.requires.few)
 pub returns-then-not-agrees : goal.returns-then-not-agrees
 returns-then-not-agrees c =
     never (λ h.
-    denied c.if-not-agrees.true c.under_members-agrees.ensures
+    refuted c.if-not-agrees.true c.under_members-agrees.ensures
     (one_agrees h c.loop-class-test.true c.if-played-class.true))
 
 pub loop-class-preserved : goal.loop-class-preserved

@@ -7,7 +7,7 @@ use Prim.Native.Nat.{◌-◌}
 use native.Mathlib.Omega.{arith}
 use borrow.Author.Rules.{rules}
 use Rattle.promise.specs.Clips.{Flagged}
-use Rattle.marks.proofs.Answers.{granted, denied, never}
+use Rattle.marks.proofs.Answers.{refuted, granted, never}
 use Rattle.marks.proofs.Upto.{Upto, none, more, all}
 use Rattle.clips.specs.Seen.{UnderMembers}
 use Rattle.clips.proofs.Seen.{all_agree, one_agrees}

@@ -2,7 +2,7 @@
 -- Assumes nothing.
 use mathlib.Core.Logic.{inl, inr}
 use Rattle.promise.proofs.Standing.{Stands, stood}
-use Rattle.marks.proofs.Answers.{granted, denied}
+use Rattle.marks.proofs.Answers.{refuted, granted}
 use Rattle.marks.proofs.Shape.{shaped}
 use Rattle.hierarchy.proofs.Outcomes.{ladder_standing, ladder_no_class, ladder_open, ladder_none, ladder_left_owed}
 use borrow.Author.Rules.{rules}
@@ -46,7 +46,7 @@ returns-then-not-up c =
     rw c.refused_count-then-not-up.ensures
     (ladder_none _ _ _ _ _ (passed (goal.at.returns-then-not-up c).Else-number-ne0) c.if-n-a.false c.if-n-b.false
     (rw c.count_open-open.ensures at c.if-open-ne0.false)
-    (denied c.if-not-up.true c.under-up.ensures))
+    (refuted c.if-not-up.true c.under-up.ensures))
 
 pub write_ladder-requires : goal.write_ladder-requires
 write_ladder-requires c =

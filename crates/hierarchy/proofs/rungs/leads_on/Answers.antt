@@ -1,11 +1,11 @@
 -- `hierarchy::rungs::leads_on` meets its contract.
 -- Assumes nothing.
 use borrow.Author.Rules.{rules}
-use Rattle.marks.proofs.Answers.{granted, denied, never}
+use Rattle.marks.proofs.Answers.{refuted, granted, never}
 use Rattle.hierarchy.proofs.rungs.leads_on.Goals as goal
 
 pub returns-then-not-direct : goal.returns-then-not-direct
-returns-then-not-direct c = never (λ h. denied c.if-not-direct.true c.is_direct-direct.ensures h.0)
+returns-then-not-direct c = never (λ h. refuted c.if-not-direct.true c.is_direct-direct.ensures h.0)
 
 pub returns : goal.returns
 returns c = (

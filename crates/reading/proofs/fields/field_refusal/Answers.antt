@@ -13,15 +13,15 @@ use Rattle.reading.proofs.fields.field_refusal.Goals.{Else-not-allowed, Else-not
 
 -- the row is known
 known : (c : Else-not-row) → c.args.row.known ≡ true
-known c = not-false _ c.if-not-row.false
+known c = c.if-not-row.false
 
 -- it may stand there
 placed : (c : Else-not-placed) → c.stands-placed.result ≡ true
-placed c = not-false _ c.if-not-placed.false
+placed c = c.if-not-placed.false
 
 -- and has a length that is allowed
 allowed : (c : Else-not-allowed) → c.allows-allowed.result ≡ true
-allowed c = not-false _ c.if-not-allowed.false
+allowed c = c.if-not-allowed.false
 
 pub returns-then-left-lt3 : goal.returns-then-left-lt3
 returns-then-left-lt3 c = field_short _ c.requires c.if-left-lt3.true

@@ -5,16 +5,16 @@ use Prim.Native.Nat.{ℕ, ◌<◌, ◌-◌}
 use native.Mathlib.Omega.{arith}
 use borrow.Author.Rules.{rules}
 use Rattle.standing.specs.Soundness.{PairStands}
-use Rattle.marks.proofs.Answers.{granted, denied, never}
+use Rattle.marks.proofs.Answers.{refuted, granted, never}
 use Rattle.marks.proofs.Upto.{Upto, none, more, all}
 use Rattle.standing.proofs.Soundness.{small_of, pair_of, sound_of}
 use Rattle.standing.proofs.sound.is_sound.Goals as goal
 
 pub returns-then-not-small : goal.returns-then-not-small
-returns-then-not-small c = never (λ h. denied c.if-not-small.true c.marks_small-small.ensures (small_of h))
+returns-then-not-small c = never (λ h. refuted c.if-not-small.true c.marks_small-small.ensures (small_of h))
 
 pub returns-then-not-diagonal : goal.returns-then-not-diagonal
-returns-then-not-diagonal c = never (λ h. denied c.if-not-diagonal.true c.diagonal_yes-diagonal.ensures (record { at = h.diagonal }))
+returns-then-not-diagonal c = never (λ h. refuted c.if-not-diagonal.true c.diagonal_yes-diagonal.ensures (record { at = h.diagonal }))
 
 pub loop-a-init : goal.loop-a-init
 loop-a-init c = none
@@ -23,7 +23,7 @@ pub loop-b-init : goal.loop-b-init
 loop-b-init c = none
 
 pub returns-then-not-stands : goal.returns-then-not-stands
-returns-then-not-stands c = never (λ h. denied c.if-not-stands.true c.pair_stands-stands.ensures
+returns-then-not-stands c = never (λ h. refuted c.if-not-stands.true c.pair_stands-stands.ensures
     (pair_of h _ _ (omega arith) (omega arith)))
 
 pub loop-b-preserved : goal.loop-b-preserved

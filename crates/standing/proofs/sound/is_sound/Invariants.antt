@@ -5,7 +5,7 @@ use Prim.Native.Nat.{ℕ, ◌<◌, ◌-◌}
 use native.Mathlib.Omega.{arith}
 use borrow.Author.Rules.{rules}
 use Rattle.standing.specs.Soundness.{PairStands}
-use Rattle.marks.proofs.Answers.{granted, denied, never}
+use Rattle.marks.proofs.Answers.{refuted, granted, never}
 use Rattle.marks.proofs.Upto.{Upto, none, more, all}
 use Rattle.standing.proofs.Soundness.{small_of, pair_of, sound_of}
 use Rattle.standing.proofs.sound.is_sound.Given as goal

@@ -6,7 +6,7 @@ use native.Mathlib.Omega.{arith}
 use borrow.Author.Rules.{rules}
 use Rattle.promise.specs.Hierarchy.{Direct}
 use Rattle.promise.proofs.Hierarchy.{dec_direct}
-use Rattle.marks.proofs.Answers.{refuted, granted, denied}
+use Rattle.marks.proofs.Answers.{refuted, granted}
 use Rattle.buffers.proofs.Noting.{SoFar, Along, so_far_none, along_none, few, hit, miss, row_end, all_noted}
 use Rattle.steps.proofs.HeadsFound.{head_at}
 use Rattle.steps.proofs.Between.{none_yet, no_steps}
@@ -25,7 +25,7 @@ loop-a-init c = (omega arith, so_far_none _)
 pub loop-a-preserved-then-not-head : goal.loop-a-preserved-then-not-head
 loop-a-preserved-then-not-head c =
     let own = head_at c.requires c.loop-a-test.true in
-    (omega arith, no_steps (λ p. denied c.if-not-head.true c.is_head-head.ensures (own.1 p)) c.loop-a.invariant.1)
+    (omega arith, no_steps (λ p. refuted c.if-not-head.true c.is_head-head.ensures (own.1 p)) c.loop-a.invariant.1)
 
 pub find_thirds-requires : goal.find_thirds-requires
 find_thirds-requires c =

@@ -6,7 +6,7 @@ use native.Mathlib.Omega.{arith}
 use borrow.Author.Rules.{rules}
 use Rattle.promise.specs.Hierarchy.{Direct}
 use Rattle.promise.proofs.Hierarchy.{dec_direct}
-use Rattle.marks.proofs.Answers.{refuted, granted, denied}
+use Rattle.marks.proofs.Answers.{refuted, granted}
 use Rattle.buffers.proofs.Noting.{SoFar, Along, so_far_none, along_none, few, hit, miss, row_end, all_noted}
 use Rattle.steps.proofs.HeadsFound.{head_at}
 use Rattle.steps.proofs.Between.{none_yet, no_steps}

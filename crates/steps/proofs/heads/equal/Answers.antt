@@ -1,11 +1,11 @@
 -- `steps::heads::equal` meets its contract.
 -- Assumes nothing.
 use borrow.Author.Rules.{rules}
-use Rattle.marks.proofs.Answers.{granted, denied, never}
+use Rattle.marks.proofs.Answers.{refuted, granted, never}
 use Rattle.steps.proofs.heads.equal.Goals as goal
 
 pub returns-then-not-up : goal.returns-then-not-up
-returns-then-not-up c = never (λ h. denied c.if-not-up.true c.under-up.ensures h.0)
+returns-then-not-up c = never (λ h. refuted c.if-not-up.true c.under-up.ensures h.0)
 
 pub returns : goal.returns
 returns c = (

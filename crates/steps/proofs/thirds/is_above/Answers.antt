@@ -1,12 +1,12 @@
 -- `steps::thirds::is_above` meets its contract: each part is tested in turn.
 -- Assumes nothing.
 use borrow.Author.Rules.{rules}
-use Rattle.marks.proofs.Answers.{granted, denied, never}
+use Rattle.marks.proofs.Answers.{refuted, granted, never}
 use Rattle.steps.proofs.HeadsFound.{head_at}
 use Rattle.steps.proofs.thirds.is_above.Goals as goal
 
 pub returns-then-not-above : goal.returns-then-not-above
-returns-then-not-above c = never (λ h. denied c.if-not-above.true c.under-above.ensures h.under)
+returns-then-not-above c = never (λ h. refuted c.if-not-above.true c.under-above.ensures h.under)
 
 pub returns-then-c-a : goal.returns-then-c-a
 returns-then-c-a c = never (λ h. h.differ c.if-c-a.true)
