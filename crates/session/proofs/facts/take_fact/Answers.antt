@@ -11,11 +11,11 @@ use Rattle.passes.specs.Taken.{OpenPair}
 use Rattle.session.proofs.Takes.{no_such_class_owed, judged_yes, judged_no, open_taken}
 use borrow.Author.Rules.{rules}
 use Rattle.session.proofs.facts.take_fact.Goals as goal
-use Rattle.session.proofs.facts.take_fact.Goals.{After-enum-told3}
+use Rattle.session.proofs.facts.take_fact.Goals.{In-Open}
 
 -- in the third arm the pair is open
 opened :
-    (e : After-enum-told3)
+    (e : In-Open)
     → let a = e.args in
     OpenPair a.session.classes a.table.now a.lower a.upper
 opened e =
@@ -49,7 +49,7 @@ mark_of-mark-requires c =
     )
 
 pub take_in-requires : goal.take_in-requires
-take_in-requires c = opened (goal.at.take_in-requires c).After-enum-told3
+take_in-requires c = opened (goal.at.take_in-requires c).In-Open
 
 pub tested-requires : goal.tested-requires
 tested-requires c =
@@ -73,4 +73,4 @@ returns-in-Open c =
     rw (c.accepted.ensures, c.tested.ensures)
     (open_taken c.args.counts c.args.holds c.args.session c.args.table.now _ _ _
     (stood _ _ 0 c.requires refl)
-    (opened (goal.at.returns-in-Open c).After-enum-told3) c.take_in.ensures)
+    (opened (goal.at.returns-in-Open c).In-Open) c.take_in.ensures)

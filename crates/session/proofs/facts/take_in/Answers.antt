@@ -11,12 +11,12 @@ pub returns-then-holds : goal.returns-then-holds
 returns-then-holds c =
     let a = c.args in
     subst⁻¹ (λ (b : Bool). FactTaken a.n (fact_on a.lower a.upper b) a.table.now
-    c.take_yes.new.1.0)
+    c.take_yes.new.table)
     c.if-holds.true c.take_yes.ensures
 
 pub returns-else-holds : goal.returns-else-holds
 returns-else-holds c =
     let a = c.args in
     subst⁻¹ (λ (b : Bool). FactTaken a.n (fact_on a.lower a.upper b) a.table.now
-    c.take_no.new.1.0)
+    c.take_no.new.table)
     c.if-holds.false c.take_no.ensures

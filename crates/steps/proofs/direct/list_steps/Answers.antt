@@ -11,6 +11,7 @@ use Rattle.buffers.proofs.Noting.{SoFar, Along, so_far_none, along_none, few, hi
 use Rattle.steps.proofs.HeadsFound.{head_at}
 use Rattle.steps.proofs.Between.{none_yet, no_steps}
 use Rattle.steps.proofs.direct.list_steps.Goals as goal
+use Rattle.steps.proofs.direct.list_steps.Goals.{then-direct, else-direct}
 use Rattle.steps.proofs.direct.list_steps.Goals.{In-loop-b}
 
 -- the steps noted so far are few
@@ -60,8 +61,12 @@ loop-b-preserved c =
       record {
         carry = λ out h.
             let s = c.loop-b.invariant.1.carry out h in
-            ⊎_elim (λ w. rw (w.5, w.6) (hit s (direct.0 w.0.taken) w.2.kept.0 w.2.ensures))
-            (λ w. rw (w.1, w.2) (miss s (refuted w.0.left direct))) c.if-direct.branch;
+            elim c.if-direct.branch [
+              then-direct w ↦
+                  rw (w.steps-is, w.count-is)
+                  (hit s (direct.0 w.if-direct.true) w.put_pair.auto.out w.put_pair.ensures)
+              | else-direct w ↦ rw (w.steps-is, w.count-is) (miss s (refuted w.if-direct.false direct))
+            ];
       },
     )
 

@@ -10,6 +10,7 @@ use Rattle.marks.proofs.Answers.{refuted}
 use Rattle.steps.proofs.Lowest.{Lowest, lowest_none, lowest_pass, lowest_keep, lowest_take, lowest_least}
 use Rattle.steps.proofs.Lowest.{lowest_has}
 use Rattle.steps.proofs.heads.head_of.Goals as goal
+use Rattle.steps.proofs.heads.head_of.Goals.{then-same+then-c-head, then-same+else-c-head, else-same}
 
 pub loop-c-init : goal.loop-c-init
 loop-c-init c =
@@ -21,9 +22,11 @@ pub loop-c-preserved : goal.loop-c-preserved
 loop-c-preserved c =
     let h = c.loop-c.invariant in
     let same = c.equal-same.ensures in
-    ⊎_elim (λ w. rw w.2 (lowest_take (omega arith) h (same.0 w.0.taken) w.1.taken))
-    (⊎_elim (λ w. rw w.2 (lowest_keep (omega arith) h w.1.left))
-    (λ w. rw w.1 (lowest_pass (omega arith) h (refuted w.0.left same)))) c.if-same.branch
+    elim c.if-same.branch [
+      then-same+then-c-head w ↦ rw w.head-is (lowest_take (omega arith) h (same.0 w.if-same.true) w.if-c-head.true)
+      | then-same+else-c-head w ↦ rw w.head-is (lowest_keep (omega arith) h w.if-c-head.false)
+      | else-same w ↦ rw w.head-is (lowest_pass (omega arith) h (refuted w.if-same.false same))
+    ]
 
 pub returns : goal.returns
 returns c =

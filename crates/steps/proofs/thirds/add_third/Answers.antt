@@ -9,4 +9,4 @@ pub returns : goal.returns
 returns c =
     let added = c.add_row in
     let p = c.requires in
-    put_back p.1 (omega (arith, p.2, added.auto.1.1.1.0)) added.ensures
+    put_back p.1 (omega (arith, p.2, added.auto.thirds)) added.ensures

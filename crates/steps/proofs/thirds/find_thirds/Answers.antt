@@ -8,6 +8,7 @@ use borrow.Author.Tests.{not-false}
 use Rattle.marks.proofs.Answers.{refuted}
 use Rattle.steps.proofs.Between.{ThirdsBelow, thirds_none, thirds_add, thirds_pass, thirds_known, thirds_all}
 use Rattle.steps.proofs.thirds.find_thirds.Goals as goal
+use Rattle.steps.proofs.thirds.find_thirds.Goals.{then-above+then-not-thirds-c, then-above+else-not-thirds-c, else-above}
 
 pub loop-c-init : goal.loop-c-init
 loop-c-init c = thirds_none c.requires.2
@@ -26,10 +27,13 @@ loop-c-preserved c =
     let h = c.loop-c.invariant in
     let above = c.is_above-above.ensures in
     let sound = c.requires.0.table.sound in
-    ⊎_elim
-    (λ w. rw w.7 (thirds_add (omega arith) h (above.0 w.0.taken) w.4.kept.1.1.1.0 w.4.ensures))
-    (⊎_elim (λ w. rw w.3 (thirds_known (omega arith) h sound (not-false _ w.2.left)))
-    (λ w. rw w.1 (thirds_pass (omega arith) h (refuted w.0.left above)))) c.if-above.branch
+    elim c.if-above.branch [
+      then-above+then-not-thirds-c w ↦
+          rw w.thirds-is
+          (thirds_add (omega arith) h (above.0 w.if-above.true) w.add_third.auto.thirds w.add_third.ensures)
+      | then-above+else-not-thirds-c w ↦ rw w.thirds-is (thirds_known (omega arith) h sound w.if-not-thirds-c.false)
+      | else-above w ↦ rw w.thirds-is (thirds_pass (omega arith) h (refuted w.if-above.false above))
+    ]
 
 pub returns : goal.returns
 returns c = thirds_all c.requires.2.room c.loop-c-test.false
