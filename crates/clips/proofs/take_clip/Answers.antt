@@ -33,8 +33,7 @@ pub non_members-others-requires : goal.non_members-others-requires
 non_members-others-requires c = (stands (goal.at.non_members-others-requires c).Start).few
 
 pub spread-requires : goal.spread-requires
-spread-requires c = shaped (stands
-    c)
+spread-requires c = shaped (stands (goal.at.spread-requires c).Start)
 
 pub returns : goal.returns
 returns c =

@@ -16,8 +16,6 @@ next :
     → c.loop-at.at + 3 + c.length_at-size.result
     ≤ length c.args.book.now
 next c =
-    let c = c in
-    let c = c in
     omega (
       arith,
       next_within c.loop-at.invariant c.loop-at-test.true c.read_field-reply.ensures
@@ -55,7 +53,7 @@ pub loop-at-preserved : goal.loop-at-preserved
 loop-at-preserved c =
     fields_next c.loop-at.invariant c.loop-at-test.true c.read_field-reply.ensures _
     (omega (arith, c.length_at-size.ensures.0)) c.if-reply-ne0.false
-    c.read_field-reply.auto.1.1.1.1.1.0
+    c.read_field-reply.auto.table
 
 pub returns : goal.returns
 returns c = rw c.accepted.ensures (book_read c.loop-at.invariant c.loop-at-test.false)

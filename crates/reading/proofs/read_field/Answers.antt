@@ -9,17 +9,17 @@ use Rattle.reading.proofs.Refusing.{head_read}
 use Rattle.reading.proofs.Following.{field_refused, field_followed}
 use borrow.Author.Rules.{rules}
 use Rattle.reading.proofs.read_field.Goals as goal
-use Rattle.reading.proofs.read_field.Goals.{After-row-of}
+use Rattle.reading.proofs.read_field.Goals.{After-row_of-row}
 
 -- the head is read
 head :
-    (c : After-row-of)
+    (c : After-row_of-row)
     → let a = c.args in HeadRead a.book.now a.at c.row_of-row.result a.size
 head c =
     let p = c.requires in head_read p.some p.gives c.row_of-row.ensures
 
 pub field_refusal-number-requires : goal.field_refusal-number-requires
-field_refusal-number-requires c = head (goal.at.field_refusal-number-requires c).After-row-of
+field_refusal-number-requires c = head (goal.at.field_refusal-number-requires c).After-row_of-row
 
 pub returns-then-number-ne0 : goal.returns-then-number-ne0
 returns-then-number-ne0 c =
@@ -30,7 +30,7 @@ returns-then-number-ne0 c =
 pub follow_field-requires : goal.follow_field-requires
 follow_field-requires c =
     record {
-      head = head (goal.at.follow_field-requires c).After-row-of;
+      head = head (goal.at.follow_field-requires c).After-row_of-row;
       stage = c.args.stage;
       right =
           subst (First (field_refusals c.args.stage (drop c.args.at c.args.book.now)))

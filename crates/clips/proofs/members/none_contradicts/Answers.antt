@@ -12,6 +12,7 @@ use Rattle.marks.proofs.Upto.{Upto, none, more, all}
 use Rattle.clips.specs.Seen.{UnderMembers}
 use Rattle.clips.proofs.Seen.{all_agree, one_agrees}
 use Rattle.clips.proofs.members.none_contradicts.Goals as goal
+use Rattle.clips.proofs.members.none_contradicts.Goals.{then-played-class+else-not-agrees, else-played-class}
 
 pub loop-class-init : goal.loop-class-init
 loop-class-init c = none
@@ -28,8 +29,10 @@ returns-then-not-agrees c =
 pub loop-class-preserved : goal.loop-class-preserved
 loop-class-preserved c =
     more c.loop-class-test.true c.loop-class.invariant
-    (⊎_elim (λ w _. granted w.2.left w.1.ensures) (λ w p. absurd (false≢true (sym w.left ∙ p)))
-    c.if-played-class.branch)
+    (elim c.if-played-class.branch [
+      then-played-class+else-not-agrees w ↦ λ _. granted w.if-not-agrees.false w.under_members-agrees.ensures
+      | else-played-class w ↦ λ p. absurd (false≢true (sym w.if-played-class.false ∙ p))
+    ])
 
 pub returns : goal.returns
 returns c = (λ _. all_agree (all c.loop-class-test.false c.loop-class.invariant), λ _. refl)

@@ -33,7 +33,7 @@ copy_front-requires-2 c =
         arith,
         steps_fit c.requires
             c.list_steps-count.ensures,
-        c.list_steps-count.auto.1.1.1.0,
+        c.list_steps-count.auto.steps,
         length-replicate {A = ℕ} 8192 0,
       ),
       c.if-steps-count.false,

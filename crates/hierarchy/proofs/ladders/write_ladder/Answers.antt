@@ -22,11 +22,11 @@ returns-then-rungs-count c =
     let head = c.find_heads.ensures.at _
     p.lower_below in
     rw c.refused_count.ensures
-    (ladder_short p head climbed.ensures climbed.auto.1.1.1.1.1.1.0 c.if-rungs-count.true)
+    (ladder_short p head climbed.ensures climbed.auto.rungs c.if-rungs-count.true)
 
 pub returns : goal.returns
 returns c =
     let climbed = c.climb-count in
     let p = c.requires in
     let head = c.find_heads.ensures.at _ p.lower_below in
-    ladder_done p head climbed.ensures climbed.auto.1.1.1.1.1.1.0 c.if-rungs-count.false
+    ladder_done p head climbed.ensures climbed.auto.rungs c.if-rungs-count.false

@@ -12,6 +12,7 @@ use Rattle.marks.proofs.Answers.{refuted}
 use Rattle.steps.proofs.Between.{none_yet}
 use Rattle.steps.proofs.Lowest.{Lowest, lowest_none, lowest_pass, lowest_keep, lowest_take, lowest_least, lowest_has}
 use Rattle.hierarchy.proofs.rungs.next_rung.Goals as goal
+use Rattle.hierarchy.proofs.rungs.next_rung.Goals.{then-on+then-c-next, then-on+else-c-next, else-on}
 use Rattle.hierarchy.proofs.rungs.next_rung.Invariants.{LeadsOn}
 
 pub find_thirds-requires : goal.find_thirds-requires
@@ -30,9 +31,11 @@ pub loop-c-preserved : goal.loop-c-preserved
 loop-c-preserved c =
     let h = c.loop-c.invariant in
     let on = c.leads_on-on.ensures in
-    ⊎_elim (λ w. rw w.2 (lowest_take (omega arith) h (on.0 w.0.taken) w.1.taken))
-    (⊎_elim (λ w. rw w.2 (lowest_keep (omega arith) h w.1.left))
-    (λ w. rw w.1 (lowest_pass (omega arith) h (refuted w.0.left on)))) c.if-on.branch
+    elim c.if-on.branch [
+      then-on+then-c-next w ↦ rw w.next-is (lowest_take (omega arith) h (on.0 w.if-on.true) w.if-c-next.true)
+      | then-on+else-c-next w ↦ rw w.next-is (lowest_keep (omega arith) h w.if-c-next.false)
+      | else-on w ↦ rw w.next-is (lowest_pass (omega arith) h (refuted w.if-on.false on))
+    ]
 
 pub returns : goal.returns
 returns c =

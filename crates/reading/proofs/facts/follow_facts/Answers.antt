@@ -31,7 +31,7 @@ pub loop-at-preserved : goal.loop-at-preserved
 loop-at-preserved c =
     facts_next c.loop-at.invariant c.loop-at-test.true c.fact-reply.ensures
     c.if-reply-ne0.false
-    c.fact-reply.auto.1.1.1.1.0
+    c.fact-reply.auto.table
 
 pub returns : goal.returns
 returns c = rw c.accepted.ensures (all_followed c.loop-at.invariant c.loop-at-test.false)

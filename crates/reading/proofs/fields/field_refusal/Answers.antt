@@ -13,7 +13,7 @@ use Rattle.reading.proofs.fields.field_refusal.Goals.{Else-not-allowed, Else-not
 
 -- the row is known
 known : (c : Else-not-row) → c.args.row.known ≡ true
-known c = c.if-not-row.false
+known c = not-false _ c.if-not-row.false
 
 -- it may stand there
 placed : (c : Else-not-placed) → c.stands-placed.result ≡ true
@@ -33,7 +33,7 @@ returns-then-not-row c =
 pub returns-then-not-placed : goal.returns-then-not-placed
 returns-then-not-placed c =
     field_known _ c.requires c.if-left-lt3.false 12 (known (goal.at.returns-then-not-placed c).Else-not-row)
-    (inl (sym c.stands-placed.ensures ∙ not-true _ c.if-not-placed.true, refl))
+    (inl (sym c.stands-placed.ensures ∙ c.if-not-placed.true, refl))
 
 pub allows-allowed-requires : goal.allows-allowed-requires
 allows-allowed-requires c =
@@ -49,7 +49,7 @@ returns-then-not-allowed c =
     field_known _ c.requires c.if-left-lt3.false 13 (known (goal.at.returns-then-not-allowed c).Else-not-row)
     (inr (
       λ e. true≢false (sym (placed (goal.at.returns-then-not-allowed c).Else-not-placed) ∙ c.stands-placed.ensures ∙ e),
-      inl (sym c.allows-allowed.ensures ∙ not-true _ c.if-not-allowed.true, refl),
+      inl (sym c.allows-allowed.ensures ∙ c.if-not-allowed.true, refl),
     ))
 
 pub returns-then-room-size : goal.returns-then-room-size
