@@ -9,7 +9,7 @@ use borrow.Author.Rules.{rules}
 use Rattle.promise.proofs.Write.{Off, dec_off}
 use Rattle.buffers.proofs.Noting.{SoFar, Along, so_far_none, along_none, few, hit, miss, row_end, all_noted}
 use Rattle.book.proofs.writing.list_marked.Goals as goal
-use Rattle.book.proofs.writing.list_marked.Goals.{In-loop-b}
+use Rattle.book.proofs.writing.list_marked.Goals.{In-loop-b, then-a-b+then-marked, then-a-b+else-marked, else-a-b}
 
 -- the pairs noted so far are few
 so-few : (c : In-loop-b) → c.loop-b.count < 16384
@@ -42,10 +42,15 @@ loop-b-preserved c = (
   record {
     carry = λ out h.
         let s = c.loop-b.invariant.1.carry out h in
-        ⊎_elim
-        (λ w. rw (w.7, w.8) (hit s (w.0.taken, w.1.ensures.0 w.2.taken) w.4.kept.0 w.4.ensures))
-        (⊎_elim (λ w. rw (w.3, w.4) (miss s (λ p. false≢true (sym w.2.left ∙ w.1.ensures.1 p.1))))
-        (λ w. rw (w.1, w.2) (miss s (λ p. p.0 w.0.left)))) c.if-a-b.branch;
+        elim c.if-a-b.branch [
+          then-a-b+then-marked w ↦
+              rw (w.out-is, w.count-is)
+              (hit s (w.if-a-b.true, w.is_marked-marked.ensures.0 w.if-marked.true) w.put_pair.auto.out w.put_pair.ensures)
+          | then-a-b+else-marked w ↦
+              rw (w.out-is, w.count-is)
+              (miss s (λ p. false≢true (sym w.if-marked.false ∙ w.is_marked-marked.ensures.1 p.1)))
+          | else-a-b w ↦ rw (w.out-is, w.count-is) (miss s (λ p. p.0 w.if-a-b.false))
+        ];
   },
 )
 

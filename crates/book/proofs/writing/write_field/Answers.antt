@@ -12,8 +12,8 @@ overflow_add-start c = omega (arith, head_fits c.requires)
 pub slice_bounds-list_marked-count : goal.slice_bounds-list_marked-count
 slice_bounds-list_marked-count c = head_fits c.requires
 
-pub slice-bounds-list-marked-start : goal.slice-bounds-list-marked-start
-slice-bounds-list-marked-start c = head_fits c.requires
+pub slice_bounds-list_marked-start : goal.slice_bounds-list_marked-start
+slice_bounds-list_marked-start c = head_fits c.requires
 
 pub overflow_mul-size : goal.overflow_mul-size
 overflow_mul-size c =
@@ -26,8 +26,8 @@ write_head-requires c =
       omega (
         arith,
         head_fits c.requires,
-        replaced_length _ c.args.out.now pairs.new.1.1.1.0 (head_fits c.requires)
-            pairs.auto.1.1.1.0,
+        replaced_length _ c.args.out.now pairs.new.out (head_fits c.requires)
+            pairs.auto.out,
       ),
       omega (arith, contents_small c.requires pairs.ensures),
     )

@@ -11,18 +11,18 @@ write_head-contents-requires c = (omega (arith, front_fits c.requires), omega ar
 
 pub put_byte-facts-requires : goal.put_byte-facts-requires
 put_byte-facts-requires c =
-    omega (arith, front_fits c.requires, c.write_head-contents.ensures.ends, c.write_head-contents.auto.0)
+    omega (arith, front_fits c.requires, c.write_head-contents.ensures.ends, c.write_head-contents.auto.out)
 
 pub write_field-behind-requires : goal.write_field-behind-requires
 write_field-behind-requires c =
     yes_fits c.requires _ (omega (arith, c.write_head-contents.ensures.ends, c.put_byte-facts.ensures.ends))
-    (c.put_byte-facts.auto.0 ∙ c.write_head-contents.auto.0)
+    (c.put_byte-facts.auto.out ∙ c.write_head-contents.auto.out)
 
 pub write_field-requires : goal.write_field-requires
 write_field-requires c =
     no_fits c.requires _ (omega (arith, c.write_head-contents.ensures.ends, c.put_byte-facts.ensures.ends))
     c.write_field-behind.ensures
-    (c.write_field-behind.auto.1.1.1.1.0 ∙ c.put_byte-facts.auto.0 ∙ c.write_head-contents.auto.0)
+    (c.write_field-behind.auto.out ∙ c.put_byte-facts.auto.out ∙ c.write_head-contents.auto.out)
 
 pub returns : goal.returns
 returns c =
