@@ -1,4 +1,4 @@
-// The calls for C: a buffer is a pointer and a length, and the answers that are enums cross as structs.
+// The calls for C, which dawnhangra_c exports: a buffer is a slice, and the answers that are enums cross as structs.
 ghost use Rattle.std.specs.Prelude.{◌≡◌};
 ghost use Rattle.order.specs.Facts.{fact_on};
 ghost use Rattle.promise.specs.Calls.{Owed, count_for, count_for_c, writes_for_c, open_pairs};
@@ -58,16 +58,14 @@ fn crossed_count(counted: Counted) -> CrossedCount
 }
 
 // Starts a table.
-#[unsafe(no_mangle)]
-pub extern "C" fn dawnhangra_fresh(classes: usize, table: &mut [u8]) -> Reply
+pub fn dawnhangra_fresh(classes: usize, table: &mut [u8]) -> Reply
     ensures { Owed (fresh classes table.old) (result, table.new) }
 {
     session::fresh(classes, table)
 }
 
 // Takes a fact in that is told.
-#[unsafe(no_mangle)]
-pub extern "C" fn dawnhangra_tell(
+pub fn dawnhangra_tell(
     session: Session,
     table: &mut [u8],
     lower: usize,
@@ -81,8 +79,7 @@ pub extern "C" fn dawnhangra_tell(
 }
 
 // Takes a fact in that a test gave.
-#[unsafe(no_mangle)]
-pub extern "C" fn dawnhangra_answer(
+pub fn dawnhangra_answer(
     session: Session,
     table: &mut [u8],
     lower: usize,
@@ -96,32 +93,28 @@ pub extern "C" fn dawnhangra_answer(
 }
 
 // Takes a clip in, with a byte for each flag.
-#[unsafe(no_mangle)]
-pub extern "C" fn dawnhangra_clip(session: Session, table: &mut [u8], played: &[u8]) -> Reply
+pub fn dawnhangra_clip(session: Session, table: &mut [u8], played: &[u8]) -> Reply
     ensures { Owed (clip_bytes session table.old played.now) (result, table.new) }
 {
     clips::clip_bytes(session, table, played)
 }
 
 // Names the first open pair.
-#[unsafe(no_mangle)]
-pub extern "C" fn dawnhangra_next(session: Session, table: &[u8]) -> CrossedQuestion
+pub fn dawnhangra_next(session: Session, table: &[u8]) -> CrossedQuestion
     ensures { Owed (next_for_c session table.now) result }
 {
     crossed_question(session::next(session, table))
 }
 
 // Counts the open pairs.
-#[unsafe(no_mangle)]
-pub extern "C" fn dawnhangra_open_pairs(session: Session, table: &[u8]) -> CrossedCount
+pub fn dawnhangra_open_pairs(session: Session, table: &[u8]) -> CrossedCount
     ensures { Owed (count_for_c (open_pairs session table.now)) result }
 {
     crossed_count(session::open_pairs(session, table))
 }
 
 // Writes heads and direct steps.
-#[unsafe(no_mangle)]
-pub extern "C" fn dawnhangra_hierarchy(
+pub fn dawnhangra_hierarchy(
     session: Session,
     table: &[u8],
     heads: &mut [u8],
@@ -135,8 +128,7 @@ pub extern "C" fn dawnhangra_hierarchy(
 }
 
 // Writes the rungs from one class to another.
-#[unsafe(no_mangle)]
-pub extern "C" fn dawnhangra_ladder(
+pub fn dawnhangra_ladder(
     session: Session,
     table: &[u8],
     lower: usize,
@@ -150,16 +142,14 @@ pub extern "C" fn dawnhangra_ladder(
 }
 
 // Reads a book onto a fresh table.
-#[unsafe(no_mangle)]
-pub extern "C" fn dawnhangra_read(book: &[u8], table: &mut [u8]) -> Reply
+pub fn dawnhangra_read(book: &[u8], table: &mut [u8]) -> Reply
     ensures { BookRead book.now table.old result table.new }
 {
     book::read(book, table)
 }
 
 // Writes the book of a table.
-#[unsafe(no_mangle)]
-pub extern "C" fn dawnhangra_write(session: Session, table: &[u8], out: &mut [u8]) -> CrossedCount
+pub fn dawnhangra_write(session: Session, table: &[u8], out: &mut [u8]) -> CrossedCount
     ensures { Owed (writes_for_c (write session table.now out.old)) (result, out.new) }
 {
     crossed_count(book::write(session, table, out))
