@@ -6,7 +6,6 @@ use Prim.Native.Nat.{ℕ, zero, suc, ◌+◌, ◌≤◌, ◌<◌}
 use native.Mathlib.Omega.{arith}
 use lib.ListN.{length, set, length-append, take-append-drop}
 use Rattle.promise.proofs.Counts.{over_fits}
-use Rattle.promise.specs.Calls.{over}
 use Rattle.buffers.specs.Placed.{place, Placed, Put}
 
 place_one : (x at : ℕ) (out : List ℕ) → at < length out → set out at x ≡ place (x ∷ []) at out

@@ -7,7 +7,6 @@ use Rattle.promise.specs.Refusals.{First, standing}
 use Rattle.promise.specs.Clips.{clip_refusals, clip}
 use Rattle.promise.proofs.Standing.{standing_refused}
 use Rattle.promise.proofs.Calls.{owed_refused}
-use borrow.Author.Rules.{rules}
 use Rattle.clips.proofs.clip.Goals as goal
 
 pub returns-then-number-ne0 : goal.returns-then-number-ne0

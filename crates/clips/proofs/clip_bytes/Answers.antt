@@ -5,7 +5,6 @@ use mathlib.Core.Logic.Iff
 use mathlib.Core.List.{[]}
 use Prim.Native.Nat.{ℕ}
 use native.Mathlib.Omega.{arith}
-use borrow.Author.Rules.{rules}
 use Rattle.promise.specs.Refusals.{First, standing}
 use Rattle.promise.specs.Clips.{bytes_refusals, clip_bytes}
 use Rattle.promise.proofs.Standing.{Stands, stood, standing_refused}

@@ -6,7 +6,6 @@ use Rattle.promise.proofs.Standing.{Stands, stood}
 use Rattle.promise.proofs.Clips.{dec_beyond, dec_clip_contradicts}
 use Rattle.marks.proofs.Shape.{shaped}
 use Rattle.marks.proofs.Answers.{refuted, granted}
-use borrow.Author.Rules.{rules}
 use Rattle.clips.proofs.Taken.{clip_beyond, clip_contradicted, clip_taken}
 use Rattle.clips.proofs.take_clip.Goals as goal
 use Rattle.clips.proofs.take_clip.Goals.{Start}

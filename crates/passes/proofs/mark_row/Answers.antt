@@ -1,15 +1,13 @@
 -- `passes::mark_row` meets its contract: what is stored where no flag is set is what stood there.
 -- Assumes nothing.
 use mathlib.Core.Path.{sym, ◌∙◌}
-use mathlib.Core.Logic.{⊎_elim}
 use mathlib.Core.Bool.{false≢true}
-use Prim.Native.Nat.{◌-◌, ◌+◌}
+use Prim.Native.Nat.{◌+◌}
 use native.Mathlib.Omega.{arith}
-use borrow.Author.Rules.{rules}
 use Rattle.marks.specs.Shape.{Shape, IndexOf}
 use Rattle.marks.proofs.Shape.{along, shape_kept}
 use Rattle.promise.proofs.Standing.{square}
-use Rattle.passes.proofs.Pass.{Row, row_start, row_flagged, row_over, row_end}
+use Rattle.passes.proofs.Pass.{row_start, row_flagged, row_over, row_end}
 use Rattle.passes.proofs.mark_row.Goals as goal
 use Rattle.passes.proofs.mark_row.Goals.{In-loop-y, then-ys-y, else-ys-y}
 
@@ -47,7 +45,7 @@ loop-y-preserved c =
     let h = c.loop-y.invariant in
     let l = (goal.at.loop-y-preserved c).In-loop-y in
     elim c.if-ys-y.branch [
-      then-ys-y w ↦ rw w.table-is (row_flagged h c.loop-y-test.true w.if-ys-y.true (shape l) (here l))
+      | then-ys-y w ↦ rw w.table-is (row_flagged h c.loop-y-test.true w.if-ys-y.true (shape l) (here l))
       | else-ys-y w ↦ row_over h c.loop-y-test.true _ w.table-is (λ f. false≢true (sym w.if-ys-y.false ∙ f))
     ]
 

@@ -1,13 +1,10 @@
 -- `passes::spread` meets its contract: row by row.
 -- Assumes nothing.
 use mathlib.Core.Path.{sym, ◌∙◌}
-use mathlib.Core.Logic.{⊎_elim}
 use mathlib.Core.Bool.{false≢true}
-use Prim.Native.Nat.{◌-◌}
 use native.Mathlib.Omega.{arith}
-use borrow.Author.Rules.{rules}
 use Rattle.marks.proofs.Shape.{shape_kept}
-use Rattle.passes.proofs.Pass.{Rows, rows_start, rows_flagged, rows_over, rows_end}
+use Rattle.passes.proofs.Pass.{rows_start, rows_flagged, rows_over, rows_end}
 use Rattle.passes.proofs.spread.Goals as goal
 use Rattle.passes.proofs.spread.Goals.{then-xs-x, else-xs-x}
 
@@ -25,7 +22,7 @@ pub loop-x-preserved : goal.loop-x-preserved
 loop-x-preserved c =
     let h = c.loop-x.invariant in
     elim c.if-xs-x.branch [
-      then-xs-x w ↦ rw w.table-is (rows_flagged h c.loop-x-test.true w.if-xs-x.true w.mark_row.ensures)
+      | then-xs-x w ↦ rw w.table-is (rows_flagged h c.loop-x-test.true w.if-xs-x.true w.mark_row.ensures)
       | else-xs-x w ↦ rw w.table-is (rows_over h c.loop-x-test.true (λ f. false≢true (sym w.if-xs-x.false ∙ f)))
     ]
 

@@ -1,6 +1,5 @@
 -- `passes::take_no` meets its contract: one pass.
 -- Assumes nothing.
-use borrow.Author.Rules.{rules}
 use Rattle.passes.proofs.Passes.{no_taken}
 use Rattle.passes.proofs.take_no.Goals as goal
 

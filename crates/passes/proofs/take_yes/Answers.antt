@@ -1,6 +1,5 @@
 -- `passes::take_yes` meets its contract: three passes over lines of the table before them.
 -- Assumes nothing.
-use borrow.Author.Rules.{rules}
 use Rattle.order.proofs.Bytes.{rest_trans}
 use Rattle.marks.proofs.Shape.{shape_kept}
 use Rattle.passes.proofs.Passes.{yes_taken}

@@ -4,7 +4,6 @@ use Prim.Native.Nat.{◌+◌}
 use native.Mathlib.Omega.{arith}
 use Rattle.reading.proofs.Following.{count_taken}
 use Rattle.reading.proofs.Refusing.{count_within, count_says, facts_say, facts_ready}
-use borrow.Author.Rules.{rules}
 use Rattle.reading.proofs.follow_field.Goals as goal
 
 pub bounds-book-start : goal.bounds-book-start

@@ -1,11 +1,9 @@
 -- `reading::read` meets its contract: the fields from here on follow all of them.
 -- Assumes nothing.
-use mathlib.Core.Path.{◌∙◌}
-use Prim.Native.Nat.{◌+◌, ◌-◌, ◌≤◌}
+use Prim.Native.Nat.{◌+◌, ◌≤◌}
 use native.Mathlib.Omega.{arith}
-use borrow.Author.Rules.{rules}
 use lib.ListN.{length}
-use Rattle.reading.proofs.Advance.{FieldsLeft, fields_left, read_empty, field_ready, book_refused, next_within}
+use Rattle.reading.proofs.Advance.{fields_left, read_empty, field_ready, book_refused, next_within}
 use Rattle.reading.proofs.Advance.{fields_next, book_read}
 use Rattle.reading.proofs.read.Goals as goal
 use Rattle.reading.proofs.read.Goals.{After-session-1}

@@ -1,12 +1,8 @@
 -- `reading::read` meets its contract: the fields from here on follow all of them.
 -- Assumes nothing.
-use mathlib.Core.Path.{◌∙◌}
-use Prim.Native.Nat.{◌+◌, ◌-◌, ◌≤◌}
-use native.Mathlib.Omega.{arith}
-use borrow.Author.Rules.{rules}
+use Prim.Native.Nat.{◌-◌}
 use lib.ListN.{length}
-use Rattle.reading.proofs.Advance.{FieldsLeft, fields_left, read_empty, field_ready, book_refused, next_within}
-use Rattle.reading.proofs.Advance.{fields_next, book_read}
+use Rattle.reading.proofs.Advance.{FieldsLeft}
 use Rattle.reading.proofs.read.Given as goal
 
 abbrev pub invariant-loop-at : goal.invariant-loop-at

@@ -7,7 +7,6 @@ use lib.ListN.{drop}
 use Rattle.reading.specs.Parts.{said_at, HeadRead}
 use Rattle.reading.proofs.Refusing.{head_read}
 use Rattle.reading.proofs.Following.{field_refused, field_followed}
-use borrow.Author.Rules.{rules}
 use Rattle.reading.proofs.read_field.Goals as goal
 use Rattle.reading.proofs.read_field.Goals.{After-row_of-row}
 

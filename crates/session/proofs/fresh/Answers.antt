@@ -6,7 +6,6 @@ use native.Mathlib.Omega.{arith}
 use Rattle.promise.specs.Tell.{fresh}
 use Rattle.promise.proofs.Calls.{owed_refused, owed_done}
 use Rattle.promise.proofs.Standing.{square}
-use borrow.Author.Rules.{rules}
 use Rattle.session.proofs.fresh.Goals as goal
 
 pub returns-then-classes-eq0 : goal.returns-then-classes-eq0

@@ -12,7 +12,6 @@ use Rattle.promise.specs.Next.{Names, next}
 use Rattle.promise.proofs.Standing.{stood}
 use Rattle.promise.proofs.Calls.{owed_refused, owed_done}
 use Rattle.marks.proofs.Shape.{shaped}
-use borrow.Author.Rules.{rules}
 use Rattle.session.proofs.next.Goals as goal
 
 none : (s : Session) (t : List ℕ) (k : ℕ) → First (standing s t []) k → k ≡ 0 → First (standing s t []) 0

@@ -8,7 +8,6 @@ use Rattle.promise.specs.Calls.{open_pairs}
 use Rattle.promise.proofs.Standing.{stood}
 use Rattle.promise.proofs.Calls.{owed_refused, owed_done}
 use Rattle.marks.proofs.Shape.{shaped}
-use borrow.Author.Rules.{rules}
 use Rattle.session.proofs.open_pairs.Goals as goal
 
 pub returns-then-number-ne0 : goal.returns-then-number-ne0

@@ -5,7 +5,6 @@ use mathlib.Core.Path.{◌≡◌, refl}
 use mathlib.Core.Logic.{◌⊎◌, inl, inr, ⊎_elim}
 use Prim.Native.Nat.{◌<◌}
 use native.Mathlib.Omega.{arith}
-use borrow.Author.Rules.{rules}
 use Rattle.order.specs.Tables.{Sound}
 use Rattle.promise.proofs.Standing.{square_above, square}
 use Rattle.marks.proofs.Answers.{refuted, granted}

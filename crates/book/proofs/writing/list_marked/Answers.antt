@@ -1,13 +1,10 @@
 -- `book::writing::list_marked` meets its contract: the pairs passed that have the mark are noted.
 -- Assumes nothing.
 use mathlib.Core.Path.{sym, ◌∙◌}
-use mathlib.Core.Logic.{⊎_elim}
 use mathlib.Core.Bool.{false≢true}
-use Prim.Native.Nat.{◌-◌, ◌≤◌, ◌<◌}
+use Prim.Native.Nat.{◌<◌}
 use native.Mathlib.Omega.{arith}
-use borrow.Author.Rules.{rules}
-use Rattle.promise.proofs.Write.{Off, dec_off}
-use Rattle.buffers.proofs.Noting.{SoFar, Along, so_far_none, along_none, few, hit, miss, row_end, all_noted}
+use Rattle.buffers.proofs.Noting.{so_far_none, along_none, few, hit, miss, row_end, all_noted}
 use Rattle.book.proofs.writing.list_marked.Goals as goal
 use Rattle.book.proofs.writing.list_marked.Goals.{In-loop-b, then-a-b+then-marked, then-a-b+else-marked, else-a-b}
 
@@ -43,7 +40,7 @@ loop-b-preserved c = (
     carry = λ out h.
         let s = c.loop-b.invariant.1.carry out h in
         elim c.if-a-b.branch [
-          then-a-b+then-marked w ↦
+          | then-a-b+then-marked w ↦
               rw (w.out-is, w.count-is)
               (hit s (w.if-a-b.true, w.is_marked-marked.ensures.0 w.if-marked.true) w.put_pair.auto.out w.put_pair.ensures)
           | then-a-b+else-marked w ↦

@@ -1,13 +1,8 @@
 -- `book::writing::list_marked` meets its contract: the pairs passed that have the mark are noted.
 -- Assumes nothing.
-use mathlib.Core.Path.{sym, ◌∙◌}
-use mathlib.Core.Logic.{⊎_elim}
-use mathlib.Core.Bool.{false≢true}
-use Prim.Native.Nat.{◌-◌, ◌≤◌, ◌<◌}
-use native.Mathlib.Omega.{arith}
-use borrow.Author.Rules.{rules}
+use Prim.Native.Nat.{◌-◌, ◌≤◌}
 use Rattle.promise.proofs.Write.{Off, dec_off}
-use Rattle.buffers.proofs.Noting.{SoFar, Along, so_far_none, along_none, few, hit, miss, row_end, all_noted}
+use Rattle.buffers.proofs.Noting.{SoFar, Along}
 use Rattle.book.proofs.writing.list_marked.Given as goal
 
 abbrev pub invariant-loop-b : goal.invariant-loop-b

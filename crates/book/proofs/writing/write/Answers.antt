@@ -3,7 +3,6 @@
 use Rattle.promise.proofs.Standing.{Stands, stood}
 use Rattle.marks.proofs.Shape.{shaped}
 use Rattle.book.proofs.Books.{write_standing, write_left_owed}
-use borrow.Author.Rules.{rules}
 use Rattle.book.proofs.writing.write.Goals as goal
 use Rattle.book.proofs.writing.write.Goals.{Else-number-ne0}
 

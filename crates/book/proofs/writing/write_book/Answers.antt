@@ -8,7 +8,6 @@ use native.Mathlib.Omega.{arith}
 use Rattle.promise.proofs.Counts.{lent_none}
 use Rattle.book.specs.Fields.{BookFits}
 use Rattle.book.proofs.Books.{counts_few, book_short, book_fits, book_done}
-use borrow.Author.Rules.{rules}
 use Rattle.book.proofs.writing.write_book.Goals as goal
 use Rattle.book.proofs.writing.write_book.Goals.{After-list_marked-no, Else-out-yes}
 

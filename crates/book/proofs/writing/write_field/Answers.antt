@@ -3,7 +3,6 @@
 use native.Mathlib.Omega.{arith}
 use Rattle.buffers.proofs.Parts.{replaced_length}
 use Rattle.book.proofs.Books.{head_fits, contents_small, field_put}
-use borrow.Author.Rules.{rules}
 use Rattle.book.proofs.writing.write_field.Goals as goal
 
 pub overflow_add-start : goal.overflow_add-start

@@ -3,7 +3,6 @@
 use mathlib.Core.Path.{◌∙◌}
 use native.Mathlib.Omega.{arith}
 use Rattle.book.proofs.Books.{front_fits, yes_fits, no_fits, book_put}
-use borrow.Author.Rules.{rules}
 use Rattle.book.proofs.writing.write_fields.Goals as goal
 
 pub write_head-contents-requires : goal.write_head-contents-requires

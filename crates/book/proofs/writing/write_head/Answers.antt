@@ -1,7 +1,6 @@
 -- `book::writing::write_head` meets its contract: each byte stands behind the one before it.
 -- Assumes nothing.
 use Rattle.buffers.proofs.Placing.{put_then}
-use borrow.Author.Rules.{rules}
 use Rattle.book.proofs.writing.write_head.Goals as goal
 
 pub returns : goal.returns

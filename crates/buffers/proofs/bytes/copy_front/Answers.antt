@@ -2,12 +2,11 @@
 -- Assumes nothing.
 use mathlib.Core.Path.{◌≡◌, ◌∙◌, ap}
 use mathlib.Core.List.{List, [], ◌∷◌, ◌++◌}
-use Prim.Native.Nat.{ℕ, ◌+◌, ◌-◌, ◌≤◌, ◌<◌}
+use Prim.Native.Nat.{ℕ, ◌+◌, ◌<◌}
 use native.Mathlib.Numerals.{add-one}
 use native.Mathlib.Omega.{arith}
 use lib.ListN.{length, get_or, take}
 use lib.Seq.{take-suc}
-use Rattle.buffers.specs.Placed.{Put}
 use Rattle.buffers.proofs.Placing.{put_none, put_one, put_then, put_length}
 use Rattle.buffers.proofs.bytes.copy_front.Goals as goal
 

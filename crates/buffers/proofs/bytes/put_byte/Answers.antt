@@ -1,7 +1,6 @@
 -- `buffers::bytes::put_byte` meets its contract.
 -- Assumes nothing.
 use Rattle.buffers.proofs.Placing.{put_one}
-use borrow.Author.Rules.{rules}
 use Rattle.buffers.proofs.bytes.put_byte.Goals as goal
 
 pub returns : goal.returns

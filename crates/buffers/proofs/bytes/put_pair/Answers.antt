@@ -3,7 +3,6 @@
 use mathlib.Core.Path.{refl}
 use native.Mathlib.Omega.{arith}
 use Rattle.buffers.proofs.Placing.{put_then}
-use borrow.Author.Rules.{rules}
 use Rattle.buffers.proofs.bytes.put_pair.Goals as goal
 
 pub returns-then-at-out : goal.returns-then-at-out

@@ -1,11 +1,10 @@
 -- `buffers::numbers::count_digits` meets its contract: a digit is counted for each that was taken off.
 -- Assumes nothing.
-use mathlib.Core.Path.{◌≡◌, ap}
+use mathlib.Core.Path.{ap}
 use mathlib.Core.List.{List}
-use Prim.Native.Nat.{ℕ, ◌+◌}
+use Prim.Native.Nat.{ℕ}
 use native.Mathlib.Omega.{arith}
 use lib.ListN.{length}
-use Rattle.buffers.specs.Decimal.{decimal}
 use Rattle.buffers.proofs.Decimals.{decimal_one, one_longer, decimal_longest}
 use Rattle.buffers.proofs.numbers.count_digits.Goals as goal
 

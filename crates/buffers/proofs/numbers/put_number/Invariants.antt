@@ -1,14 +1,11 @@
 -- `buffers::numbers::put_number` meets its contract: behind the digits that are left stand the others.
 -- Assumes nothing.
-use mathlib.Core.Path.{◌≡◌, sym, ◌∙◌, ap}
-use mathlib.Core.List.{List, [], ◌∷◌, ◌++◌, append_assoc, append-nil}
-use Prim.Native.Nat.{ℕ, ◌+◌, ◌-◌, ◌/◌, ◌%◌, ◌<◌, ◌≤◌}
-use native.Mathlib.Omega.{arith}
-use lib.ListN.{length, set, length-set}
+use mathlib.Core.Path.{◌≡◌}
+use mathlib.Core.List.{List, ◌++◌}
+use Prim.Native.Nat.{ℕ, ◌+◌}
+use lib.ListN.{length}
 use Rattle.buffers.specs.Placed.{Put}
-use Rattle.buffers.specs.Decimal.{digit_0, decimal}
-use Rattle.buffers.proofs.Placing.{put_none, put_one, put_before, put_length}
-use Rattle.buffers.proofs.Decimals.{decimal_one, decimal_more, one_longer, decimal_written}
+use Rattle.buffers.specs.Decimal.{decimal}
 use Rattle.buffers.proofs.numbers.put_number.Given as goal
 
 -- the digits of rest are still to be put before index left; those of the number behind them stand there

@@ -1,12 +1,9 @@
 -- `clips::bytes::flags_of` meets its contract: flag by flag.
 -- Assumes nothing.
 use mathlib.Core.Path.{refl}
-use Prim.Native.Nat.{◌-◌}
 use native.Mathlib.Omega.{arith}
-use borrow.Author.Rules.{rules}
-use Rattle.promise.specs.Clips.{Flagged, flags_of}
 use Rattle.promise.proofs.Flags.{flags_length}
-use Rattle.passes.proofs.Pass.{Gathered, gather_start, gather_next}
+use Rattle.passes.proofs.Pass.{gather_start, gather_next}
 use Rattle.clips.proofs.Seen.{same_gathered}
 use Rattle.clips.proofs.bytes.flags_of.Goals as goal
 

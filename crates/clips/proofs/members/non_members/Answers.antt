@@ -1,10 +1,8 @@
 -- `clips::members::non_members` meets its contract: flag by flag.
 -- Assumes nothing.
 use mathlib.Core.Path.{refl}
-use Prim.Native.Nat.{◌-◌}
 use native.Mathlib.Omega.{arith}
-use Rattle.promise.specs.Clips.{Flagged}
-use Rattle.passes.proofs.Pass.{Gathered, gather_start, gather_next, gather_end}
+use Rattle.passes.proofs.Pass.{gather_start, gather_next, gather_end}
 use Rattle.clips.proofs.Seen.{turned}
 use Rattle.clips.proofs.members.non_members.Goals as goal
 

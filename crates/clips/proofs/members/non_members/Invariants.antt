@@ -1,11 +1,8 @@
 -- `clips::members::non_members` meets its contract: flag by flag.
 -- Assumes nothing.
-use mathlib.Core.Path.{refl}
 use Prim.Native.Nat.{◌-◌}
-use native.Mathlib.Omega.{arith}
 use Rattle.promise.specs.Clips.{Flagged}
-use Rattle.passes.proofs.Pass.{Gathered, gather_start, gather_next, gather_end}
-use Rattle.clips.proofs.Seen.{turned}
+use Rattle.passes.proofs.Pass.{Gathered}
 use Rattle.clips.proofs.members.non_members.Given as goal
 
 abbrev pub invariant-loop-class : goal.invariant-loop-class

@@ -1,11 +1,8 @@
 -- `clips::members::none_beyond` meets its contract: no flag passed is that of a class of n or more.
 -- Assumes nothing.
-use mathlib.Core.Path.{◌≡◌, refl}
-use Prim.Native.Nat.{◌-◌, ◌<◌}
+use mathlib.Core.Path.{refl}
 use native.Mathlib.Omega.{arith}
-use lib.ListN.{length}
-use Rattle.promise.specs.Clips.{Flagged}
-use Rattle.standing.proofs.Clear.{Clear, clear_none, clear_more, clear_all}
+use Rattle.standing.proofs.Clear.{clear_none, clear_more, clear_all}
 use Rattle.clips.proofs.Seen.{inside_clear, beyond_seen}
 use Rattle.clips.proofs.members.none_beyond.Goals as goal
 

@@ -1,12 +1,10 @@
 -- `clips::members::none_beyond` meets its contract: no flag passed is that of a class of n or more.
 -- Assumes nothing.
-use mathlib.Core.Path.{◌≡◌, refl}
+use mathlib.Core.Path.{◌≡◌}
 use Prim.Native.Nat.{◌-◌, ◌<◌}
-use native.Mathlib.Omega.{arith}
 use lib.ListN.{length}
 use Rattle.promise.specs.Clips.{Flagged}
-use Rattle.standing.proofs.Clear.{Clear, clear_none, clear_more, clear_all}
-use Rattle.clips.proofs.Seen.{inside_clear, beyond_seen}
+use Rattle.standing.proofs.Clear.{Clear}
 use Rattle.clips.proofs.members.none_beyond.Given as goal
 
 abbrev pub invariant-loop-class : goal.invariant-loop-class

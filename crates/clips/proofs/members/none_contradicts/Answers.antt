@@ -1,15 +1,10 @@
 -- `clips::members::none_contradicts` meets its contract: class by class.
 -- Assumes nothing.
 use mathlib.Core.Path.{refl, sym, ◌∙◌}
-use mathlib.Core.Logic.{⊎_elim}
 use mathlib.Core.Bool.{false≢true}
-use Prim.Native.Nat.{◌-◌}
 use native.Mathlib.Omega.{arith}
-use borrow.Author.Rules.{rules}
-use Rattle.promise.specs.Clips.{Flagged}
 use Rattle.marks.proofs.Answers.{refuted, granted, never}
-use Rattle.marks.proofs.Upto.{Upto, none, more, all}
-use Rattle.clips.specs.Seen.{UnderMembers}
+use Rattle.marks.proofs.Upto.{none, more, all}
 use Rattle.clips.proofs.Seen.{all_agree, one_agrees}
 use Rattle.clips.proofs.members.none_contradicts.Goals as goal
 use Rattle.clips.proofs.members.none_contradicts.Goals.{then-played-class+else-not-agrees, else-played-class}
@@ -30,7 +25,7 @@ pub loop-class-preserved : goal.loop-class-preserved
 loop-class-preserved c =
     more c.loop-class-test.true c.loop-class.invariant
     (elim c.if-played-class.branch [
-      then-played-class+else-not-agrees w ↦ λ _. granted w.if-not-agrees.false w.under_members-agrees.ensures
+      | then-played-class+else-not-agrees w ↦ λ _. granted w.if-not-agrees.false w.under_members-agrees.ensures
       | else-played-class w ↦ λ p. absurd (false≢true (sym w.if-played-class.false ∙ p))
     ])
 

@@ -1,16 +1,9 @@
 -- `clips::members::none_contradicts` meets its contract: class by class.
 -- Assumes nothing.
-use mathlib.Core.Path.{refl, sym, ◌∙◌}
-use mathlib.Core.Logic.{⊎_elim}
-use mathlib.Core.Bool.{false≢true}
 use Prim.Native.Nat.{◌-◌}
-use native.Mathlib.Omega.{arith}
-use borrow.Author.Rules.{rules}
 use Rattle.promise.specs.Clips.{Flagged}
-use Rattle.marks.proofs.Answers.{refuted, granted, never}
-use Rattle.marks.proofs.Upto.{Upto, none, more, all}
+use Rattle.marks.proofs.Upto.{Upto}
 use Rattle.clips.specs.Seen.{UnderMembers}
-use Rattle.clips.proofs.Seen.{all_agree, one_agrees}
 use Rattle.clips.proofs.members.none_contradicts.Given as goal
 
 abbrev pub invariant-loop-class : goal.invariant-loop-class

@@ -2,12 +2,9 @@
 -- Assumes nothing.
 use mathlib.Core.Path.{◌≡◌}
 use Prim.Native.Nat.{◌-◌}
-use native.Mathlib.Omega.{arith}
 use Rattle.order.specs.Tables.{mark}
-use Rattle.marks.proofs.Shape.{row_below, row_reads}
 use Rattle.promise.specs.Clips.{Flagged}
-use Rattle.standing.proofs.Clear.{Clear, clear_none, clear_more, clear_all}
-use Rattle.clips.proofs.Seen.{closed_clear}
+use Rattle.standing.proofs.Clear.{Clear}
 use Rattle.clips.proofs.members.under_members.Given as goal
 
 abbrev pub invariant-loop-above : goal.invariant-loop-above

@@ -3,7 +3,6 @@
 use Rattle.promise.proofs.Standing.{Stands, stood}
 use Rattle.marks.proofs.Shape.{shaped}
 use Rattle.hierarchy.proofs.Outcomes.{hierarchy_standing, hierarchy_open, hierarchy_left_owed}
-use borrow.Author.Rules.{rules}
 use Rattle.hierarchy.proofs.groups.hierarchy.Goals as goal
 use Rattle.hierarchy.proofs.groups.hierarchy.Goals.{Else-number-ne0}
 

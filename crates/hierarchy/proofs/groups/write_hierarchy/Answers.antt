@@ -3,7 +3,6 @@
 -- Assumes nothing.
 use Prim.Native.Nat.{ℕ}
 use native.Mathlib.Omega.{arith}
-use borrow.Author.Rules.{rules}
 use lib.ListN.{length-replicate}
 use Rattle.hierarchy.proofs.Outcomes.{heads_short, steps_short, steps_fit, hierarchy_done}
 use Rattle.hierarchy.proofs.groups.write_hierarchy.Goals as goal
@@ -27,17 +26,16 @@ returns-then-steps-count c =
     (steps_short c.list_steps-count.ensures c.if-steps-count.true)
 
 pub copy_front-requires-2 : goal.copy_front-requires-2
-copy_front-requires-2 c =
-    (
-      omega (
-        arith,
-        steps_fit c.requires
-            c.list_steps-count.ensures,
-        c.list_steps-count.auto.steps,
-        length-replicate {A = ℕ} 8192 0,
-      ),
-      c.if-steps-count.false,
-    )
+copy_front-requires-2 c = (
+  omega (
+    arith,
+    steps_fit c.requires
+        c.list_steps-count.ensures,
+    c.list_steps-count.auto.steps,
+    length-replicate {A = ℕ} 8192 0,
+  ),
+  c.if-steps-count.false,
+)
 
 pub returns : goal.returns
 returns c =

@@ -5,7 +5,6 @@ use Rattle.promise.proofs.Standing.{Stands, stood}
 use Rattle.marks.proofs.Answers.{refuted, granted}
 use Rattle.marks.proofs.Shape.{shaped}
 use Rattle.hierarchy.proofs.Outcomes.{ladder_standing, ladder_no_class, ladder_open, ladder_none, ladder_left_owed}
-use borrow.Author.Rules.{rules}
 use Rattle.hierarchy.proofs.ladders.ladder.Goals as goal
 use Rattle.hierarchy.proofs.ladders.ladder.Goals.{Else-number-ne0}
 

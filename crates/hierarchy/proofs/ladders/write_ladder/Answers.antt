@@ -2,7 +2,6 @@
 -- Assumes nothing.
 use native.Mathlib.Omega.{arith}
 use Rattle.hierarchy.proofs.Outcomes.{start_reached, ladder_short, ladder_done}
-use borrow.Author.Rules.{rules}
 use Rattle.hierarchy.proofs.ladders.write_ladder.Goals as goal
 
 pub overflow_cast-start : goal.overflow_cast-start

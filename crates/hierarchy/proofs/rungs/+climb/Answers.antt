@@ -38,7 +38,7 @@ beyond :
 beyond t c =
     let p = c.requires in
     elim c.if-rung-top.branch [
-      then-rung-top w ↦
+      | then-rung-top w ↦
           rw (w.count-is, w.rungs-is)
           (beyond_next w.next_rung-next.ensures w.climb-count.ensures w.climb-count.auto.rungs)
       | else-rung-top w ↦ rw (w.count-is, w.rungs-is) (beyond_none (at_top p.0 p.1 w.if-rung-top.false))

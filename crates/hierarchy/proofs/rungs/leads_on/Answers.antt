@@ -1,6 +1,5 @@
 -- `hierarchy::rungs::leads_on` meets its contract.
 -- Assumes nothing.
-use borrow.Author.Rules.{rules}
 use Rattle.marks.proofs.Answers.{refuted, granted, never}
 use Rattle.hierarchy.proofs.rungs.leads_on.Goals as goal
 

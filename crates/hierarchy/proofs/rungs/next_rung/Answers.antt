@@ -1,19 +1,13 @@
 -- `hierarchy::rungs::next_rung` meets its contract: there is a next rung, and each class that leads on is compared with
 -- the lowest so far.
 -- Assumes nothing.
-use mathlib.Core.Logic.{⊎_elim}
-use mathlib.Core.List.{List}
-use Prim.Native.Nat.{ℕ, ◌-◌}
 use native.Mathlib.Omega.{arith}
-use borrow.Author.Rules.{rules}
-use Rattle.promise.specs.Hierarchy.{Under, Direct}
 use Rattle.promise.proofs.Ladder.{rung_there}
 use Rattle.marks.proofs.Answers.{refuted}
 use Rattle.steps.proofs.Between.{none_yet}
-use Rattle.steps.proofs.Lowest.{Lowest, lowest_none, lowest_pass, lowest_keep, lowest_take, lowest_least, lowest_has}
+use Rattle.steps.proofs.Lowest.{lowest_none, lowest_pass, lowest_keep, lowest_take, lowest_least, lowest_has}
 use Rattle.hierarchy.proofs.rungs.next_rung.Goals as goal
 use Rattle.hierarchy.proofs.rungs.next_rung.Goals.{then-on+then-c-next, then-on+else-c-next, else-on}
-use Rattle.hierarchy.proofs.rungs.next_rung.Invariants.{LeadsOn}
 
 pub find_thirds-requires : goal.find_thirds-requires
 find_thirds-requires c =
@@ -32,7 +26,7 @@ loop-c-preserved c =
     let h = c.loop-c.invariant in
     let on = c.leads_on-on.ensures in
     elim c.if-on.branch [
-      then-on+then-c-next w ↦ rw w.next-is (lowest_take (omega arith) h (on.0 w.if-on.true) w.if-c-next.true)
+      | then-on+then-c-next w ↦ rw w.next-is (lowest_take (omega arith) h (on.0 w.if-on.true) w.if-c-next.true)
       | then-on+else-c-next w ↦ rw w.next-is (lowest_keep (omega arith) h w.if-c-next.false)
       | else-on w ↦ rw w.next-is (lowest_pass (omega arith) h (refuted w.if-on.false on))
     ]

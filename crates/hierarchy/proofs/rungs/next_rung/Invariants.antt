@@ -1,16 +1,10 @@
 -- `hierarchy::rungs::next_rung` meets its contract: there is a next rung, and each class that leads on is compared with
 -- the lowest so far.
 -- Assumes nothing.
-use mathlib.Core.Logic.{⊎_elim}
 use mathlib.Core.List.{List}
 use Prim.Native.Nat.{ℕ, ◌-◌}
-use native.Mathlib.Omega.{arith}
-use borrow.Author.Rules.{rules}
 use Rattle.promise.specs.Hierarchy.{Under, Direct}
-use Rattle.promise.proofs.Ladder.{rung_there}
-use Rattle.marks.proofs.Answers.{refuted}
-use Rattle.steps.proofs.Between.{none_yet}
-use Rattle.steps.proofs.Lowest.{Lowest, lowest_none, lowest_pass, lowest_keep, lowest_take, lowest_least, lowest_has}
+use Rattle.steps.proofs.Lowest.{Lowest}
 use Rattle.hierarchy.proofs.rungs.next_rung.Given as goal
 
 -- c is directly above the rung and under the goal

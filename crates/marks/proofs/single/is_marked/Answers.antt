@@ -1,6 +1,5 @@
 -- `marks::single::is_marked` meets its contract: the test of the byte is the test of the mark.
 -- Assumes nothing.
-use borrow.Author.Rules.{rules}
 use Rattle.marks.proofs.Shape.{tested}
 use Rattle.marks.proofs.single.is_marked.Goals as goal
 

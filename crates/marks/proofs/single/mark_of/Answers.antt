@@ -2,7 +2,6 @@
 -- Assumes nothing.
 use mathlib.Core.Path.{◌∙◌}
 use native.Mathlib.Omega.{arith}
-use borrow.Author.Rules.{rules}
 use Rattle.marks.proofs.Shape.{reads}
 use Rattle.marks.proofs.single.mark_of.Goals as goal
 

@@ -1,9 +1,9 @@
 -- `marks::whole::count_open` meets its contract: the count is that of the bytes passed.
 -- Assumes nothing.
 use mathlib.Core.Path.{◌≡◌, refl, ap, ◌∙◌}
-use mathlib.Core.Logic.{◌≢◌, ⊎_elim}
+use mathlib.Core.Logic.{◌≢◌}
 use mathlib.Core.List.{List}
-use Prim.Native.Nat.{ℕ, ◌+◌, ◌≤◌, ◌-◌}
+use Prim.Native.Nat.{ℕ, ◌+◌}
 use native.Mathlib.Numerals.{add-one}
 use native.Mathlib.Omega.{arith}
 use lib.ListN.{get_or}
@@ -48,7 +48,7 @@ loop-i-preserved c =
     let t = c.args.table.now in (
       omega arith,
       elim c.if-table-i-eq-OPEN.branch [
-        then-table-i-eq-OPEN w ↦ rw w.count-is (one_more t _ _ c.loop-i.invariant.1 w.if-table-i-eq-OPEN.true)
+        | then-table-i-eq-OPEN w ↦ rw w.count-is (one_more t _ _ c.loop-i.invariant.1 w.if-table-i-eq-OPEN.true)
         | else-table-i-eq-OPEN w ↦ rw w.count-is (none_more t _ _ c.loop-i.invariant.1 w.if-table-i-eq-OPEN.false)
       ],
     )

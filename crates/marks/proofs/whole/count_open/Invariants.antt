@@ -1,15 +1,9 @@
 -- `marks::whole::count_open` meets its contract: the count is that of the bytes passed.
 -- Assumes nothing.
-use mathlib.Core.Path.{◌≡◌, refl, ap, ◌∙◌}
-use mathlib.Core.Logic.{◌≢◌, ⊎_elim}
+use mathlib.Core.Path.{◌≡◌}
 use mathlib.Core.List.{List}
-use Prim.Native.Nat.{ℕ, ◌+◌, ◌≤◌, ◌-◌}
-use native.Mathlib.Numerals.{add-one}
-use native.Mathlib.Omega.{arith}
-use lib.ListN.{get_or}
-use Rattle.order.specs.Tables.{open_count, opens_to}
-use Rattle.order.proofs.Counts.{open_settled}
-use Rattle.promise.proofs.Standing.{square}
+use Prim.Native.Nat.{ℕ, ◌≤◌, ◌-◌}
+use Rattle.order.specs.Tables.{opens_to}
 use Rattle.marks.proofs.whole.count_open.Given as goal
 
 -- r of the first i bytes are open marks

@@ -3,12 +3,10 @@
 use mathlib.Core.Path.{◌≡◌, refl, sym, ◌∙◌}
 use mathlib.Core.Logic.{◌≢◌, inl, inr, ⊎_elim}
 use mathlib.Core.List.{List}
-use Prim.Native.Nat.{ℕ, ◌+◌, ◌≤◌, ◌<◌, ◌-◌}
+use Prim.Native.Nat.{ℕ, ◌+◌, ◌≤◌, ◌<◌}
 use native.Mathlib.Decide.{ℕ_discrete}
 use native.Mathlib.Omega.{arith}
-use borrow.Author.Rules.{rules}
 use Rattle.order.specs.Tables.{mark, Before}
-use Rattle.promise.specs.declared.Question.TheVariants.{Done}
 use Rattle.marks.proofs.Shape.{reads}
 use Rattle.marks.proofs.whole.first_open.Goals as goal
 use Rattle.marks.proofs.whole.first_open.Invariants.{None}

@@ -1,15 +1,11 @@
 -- `marks::whole::first_open` meets its contract: no pair passed is open.
 -- Assumes nothing.
-use mathlib.Core.Path.{◌≡◌, refl, sym, ◌∙◌}
-use mathlib.Core.Logic.{◌≢◌, inl, inr, ⊎_elim}
+use mathlib.Core.Path.{◌≡◌}
+use mathlib.Core.Logic.{◌≢◌}
 use mathlib.Core.List.{List}
-use Prim.Native.Nat.{ℕ, ◌+◌, ◌≤◌, ◌<◌, ◌-◌}
-use native.Mathlib.Decide.{ℕ_discrete}
-use native.Mathlib.Omega.{arith}
-use borrow.Author.Rules.{rules}
+use Prim.Native.Nat.{ℕ, ◌≤◌, ◌<◌, ◌-◌}
 use Rattle.order.specs.Tables.{mark, Before}
 use Rattle.promise.specs.declared.Question.TheVariants.{Done}
-use Rattle.marks.proofs.Shape.{reads}
 use Rattle.marks.proofs.whole.first_open.Given as goal
 
 -- no open pair stands before (a, b)

@@ -1,18 +1,11 @@
 -- `marks::whole::fresh_marks` meets its contract: all marks are open, and then the diagonal is yes as far as it was
 -- passed.
 -- Assumes nothing.
-use mathlib.Core.Path.{◌≡◌, refl, sym, ◌∙◌}
-use mathlib.Core.Logic.{◌≢◌, ⊎_elim}
+use mathlib.Core.Path.{◌≡◌}
+use mathlib.Core.Logic.{◌≢◌}
 use mathlib.Core.List.{List}
-use Prim.Native.Nat.{ℕ, ◌+◌, ◌*◌, ◌≤◌, ◌<◌, ◌-◌}
-use native.Mathlib.Omega.{arith}
-use borrow.Author.Rules.{rules}
-use lib.ListN.{set}
+use Prim.Native.Nat.{ℕ, ◌≤◌, ◌<◌, ◌-◌}
 use Rattle.order.specs.Tables.{mark, SameRest}
-use Rattle.order.proofs.Bytes.{pair_below, rest_refl, rest_trans}
-use Rattle.marks.specs.Shape.{Shape, IndexOf, Cleared, MadeFresh}
-use Rattle.promise.proofs.Standing.{square}
-use Rattle.marks.proofs.Shape.{stored, rest_store, shape_kept}
 use Rattle.marks.proofs.whole.fresh_marks.Given as goal
 
 -- the diagonal before i is yes, and nothing else is changed

@@ -1,12 +1,9 @@
 -- `passes::flags::column_flags` meets its contract: one mark of each row is read.
 -- Assumes nothing.
-use mathlib.Core.Path.{◌≡◌, refl}
-use Prim.Native.Nat.{◌-◌}
+use mathlib.Core.Path.{refl}
 use native.Mathlib.Omega.{arith}
-use borrow.Author.Rules.{rules}
-use Rattle.order.specs.Tables.{mark}
 use Rattle.marks.proofs.Shape.{tested}
-use Rattle.passes.proofs.Pass.{Gathered, gather_start, gather_next, gather_end}
+use Rattle.passes.proofs.Pass.{gather_start, gather_next, gather_end}
 use Rattle.passes.proofs.flags.column_flags.Goals as goal
 
 pub loop-x-init : goal.loop-x-init

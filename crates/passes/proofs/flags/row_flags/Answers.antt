@@ -1,14 +1,12 @@
 -- `passes::flags::row_flags` meets its contract: the row stands byte after byte.
 -- Assumes nothing.
-use mathlib.Core.Path.{◌≡◌, refl}
-use Prim.Native.Nat.{◌-◌, ◌+◌}
+use mathlib.Core.Path.{refl}
+use Prim.Native.Nat.{◌+◌}
 use native.Mathlib.Omega.{arith}
-use borrow.Author.Rules.{rules}
-use Rattle.order.specs.Tables.{mark}
 use Rattle.marks.specs.Shape.{IndexOf}
 use Rattle.marks.proofs.Shape.{along, tested}
 use Rattle.promise.proofs.Standing.{square}
-use Rattle.passes.proofs.Pass.{Gathered, gather_start, gather_next, gather_end}
+use Rattle.passes.proofs.Pass.{gather_start, gather_next, gather_end}
 use Rattle.passes.proofs.flags.row_flags.Goals as goal
 use Rattle.passes.proofs.flags.row_flags.Goals.{In-loop-y}
 

@@ -4,7 +4,6 @@ use Prim.Native.Nat.{◌+◌}
 use native.Mathlib.Omega.{arith}
 use Rattle.reading.proofs.Rows.{wide_most}
 use Rattle.reading.proofs.Following.{bad_verdict_ends, fact_taken}
-use borrow.Author.Rules.{rules}
 use Rattle.reading.proofs.facts.fact.Goals as goal
 
 pub returns-then-verdict-gt1 : goal.returns-then-verdict-gt1

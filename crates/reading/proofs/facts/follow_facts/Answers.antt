@@ -1,10 +1,7 @@
 -- `reading::facts::follow_facts` meets its contract: the facts from here on follow all of them.
 -- Assumes nothing.
-use mathlib.Core.Path.{◌∙◌}
-use Prim.Native.Nat.{◌-◌}
 use native.Mathlib.Omega.{arith}
-use borrow.Author.Rules.{rules}
-use Rattle.reading.proofs.Advance.{FactsLeft, facts_left, some_bytes, fits, one_ready, refused_here}
+use Rattle.reading.proofs.Advance.{facts_left, some_bytes, fits, one_ready, refused_here}
 use Rattle.reading.proofs.Advance.{facts_next, all_followed}
 use Rattle.reading.proofs.facts.follow_facts.Goals as goal
 

@@ -1,7 +1,6 @@
 -- `reading::facts::placed` meets its contract.
 -- Assumes nothing.
 use mathlib.Core.Path.{refl}
-use borrow.Author.Rules.{rules}
 use Rattle.reading.proofs.facts.placed.Goals as goal
 
 pub returns-then-reply-eq0 : goal.returns-then-reply-eq0

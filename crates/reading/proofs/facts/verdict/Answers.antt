@@ -3,7 +3,6 @@
 use mathlib.Core.Path.{refl, sym}
 use native.Mathlib.Omega.{arith}
 use lib.Seq.{get_or-drop}
-use borrow.Author.Rules.{rules}
 use Rattle.reading.proofs.facts.verdict.Goals as goal
 
 pub bounds-book-at : goal.bounds-book-at

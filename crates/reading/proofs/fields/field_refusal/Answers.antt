@@ -5,7 +5,6 @@ use mathlib.Core.Logic.{inl, inr}
 use mathlib.Core.Bool.{true, true≢false}
 use native.Mathlib.Omega.{arith}
 use borrow.Author.Tests.{not-true, not-false}
-use borrow.Author.Rules.{rules}
 use Rattle.reading.proofs.Rows.{wide_row, wide_most}
 use Rattle.reading.proofs.Refusing.{field_short, field_unknown, field_known}
 use Rattle.reading.proofs.fields.field_refusal.Goals as goal

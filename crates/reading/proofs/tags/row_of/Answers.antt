@@ -1,7 +1,6 @@
 -- `reading::tags::row_of` meets its contract.
 -- Assumes nothing.
 use Rattle.reading.proofs.Rows.{yes_row, no_row, answers_row, plain_row}
-use borrow.Author.Rules.{rules}
 use Rattle.reading.proofs.tags.row_of.Goals as goal
 
 pub returns-then-tag-eq-YES_FACTS : goal.returns-then-tag-eq-YES_FACTS

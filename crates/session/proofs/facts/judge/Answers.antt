@@ -3,7 +3,6 @@
 use mathlib.Core.Path.{subst⁻¹}
 use mathlib.Core.Bool.{Bool}
 use Rattle.session.specs.Facts.{Judged}
-use borrow.Author.Rules.{rules}
 use Rattle.session.proofs.facts.judge.Goals as goal
 
 pub returns-then-agrees : goal.returns-then-agrees

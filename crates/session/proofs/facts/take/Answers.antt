@@ -9,7 +9,6 @@ use Rattle.session.specs.Facts.{kind_of}
 use Rattle.promise.specs.Tell.{tell_refusals, tell}
 use Rattle.promise.proofs.Standing.{standing_refused}
 use Rattle.promise.proofs.Calls.{owed_refused}
-use borrow.Author.Rules.{rules}
 use Rattle.session.proofs.facts.take.Goals as goal
 
 pub returns-then-number-ne0 : goal.returns-then-number-ne0

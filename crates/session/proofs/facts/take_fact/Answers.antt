@@ -9,7 +9,6 @@ use Rattle.marks.specs.Shape.{byte_of}
 use Rattle.marks.proofs.Shape.{shaped}
 use Rattle.passes.specs.Taken.{OpenPair}
 use Rattle.session.proofs.Takes.{no_such_class_owed, judged_yes, judged_no, open_taken}
-use borrow.Author.Rules.{rules}
 use Rattle.session.proofs.facts.take_fact.Goals as goal
 use Rattle.session.proofs.facts.take_fact.Goals.{In-Open}
 

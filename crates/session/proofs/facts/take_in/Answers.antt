@@ -4,7 +4,6 @@ use mathlib.Core.Path.{subst⁻¹}
 use mathlib.Core.Bool.{Bool}
 use Rattle.order.specs.Facts.{fact_on}
 use Rattle.passes.specs.Taken.{FactTaken}
-use borrow.Author.Rules.{rules}
 use Rattle.session.proofs.facts.take_in.Goals as goal
 
 pub returns-then-holds : goal.returns-then-holds

@@ -3,7 +3,6 @@
 use mathlib.Core.Path.{◌≡◌, refl, subst⁻¹}
 use mathlib.Core.Bool.{Bool}
 use native.Mathlib.Nat.{add-zero}
-use borrow.Author.Rules.{rules}
 use Rattle.promise.specs.Calls.{tested}
 use Rattle.session.specs.Facts.{count_of}
 use Rattle.session.proofs.replies.tested.Goals as goal

@@ -1,13 +1,10 @@
 -- `standing::sound::diagonal_yes` meets its contract.
 -- Assumes nothing.
-use mathlib.Core.Path.{◌≡◌, refl, sym, ◌∙◌}
-use Prim.Native.Nat.{◌-◌}
+use mathlib.Core.Path.{refl, sym, ◌∙◌}
 use native.Mathlib.Omega.{arith}
-use borrow.Author.Rules.{rules}
-use Rattle.order.specs.Tables.{mark}
 use Rattle.marks.proofs.Answers.{never}
 use Rattle.marks.proofs.Shape.{reads}
-use Rattle.marks.proofs.Upto.{Upto, none, more, all}
+use Rattle.marks.proofs.Upto.{none, more, all}
 use Rattle.standing.proofs.sound.diagonal_yes.Goals as goal
 
 pub loop-a-init : goal.loop-a-init

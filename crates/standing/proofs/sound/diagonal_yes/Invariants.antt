@@ -1,13 +1,9 @@
 -- `standing::sound::diagonal_yes` meets its contract.
 -- Assumes nothing.
-use mathlib.Core.Path.{◌≡◌, refl, sym, ◌∙◌}
+use mathlib.Core.Path.{◌≡◌}
 use Prim.Native.Nat.{◌-◌}
-use native.Mathlib.Omega.{arith}
-use borrow.Author.Rules.{rules}
 use Rattle.order.specs.Tables.{mark}
-use Rattle.marks.proofs.Answers.{never}
-use Rattle.marks.proofs.Shape.{reads}
-use Rattle.marks.proofs.Upto.{Upto, none, more, all}
+use Rattle.marks.proofs.Upto.{Upto}
 use Rattle.standing.proofs.sound.diagonal_yes.Given as goal
 
 abbrev pub invariant-loop-a : goal.invariant-loop-a

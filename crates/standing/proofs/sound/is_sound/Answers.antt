@@ -1,12 +1,9 @@
 -- `standing::sound::is_sound` meets its contract: every pair passed has what soundness asks of it.
 -- Assumes nothing.
 use mathlib.Core.Path.{refl}
-use Prim.Native.Nat.{ℕ, ◌<◌, ◌-◌}
 use native.Mathlib.Omega.{arith}
-use borrow.Author.Rules.{rules}
-use Rattle.standing.specs.Soundness.{PairStands}
 use Rattle.marks.proofs.Answers.{refuted, granted, never}
-use Rattle.marks.proofs.Upto.{Upto, none, more, all}
+use Rattle.marks.proofs.Upto.{none, more, all}
 use Rattle.standing.proofs.Soundness.{small_of, pair_of, sound_of}
 use Rattle.standing.proofs.sound.is_sound.Goals as goal
 
@@ -35,11 +32,10 @@ loop-a-preserved c = more (omega arith) c.loop-a.invariant
     (all c.loop-b-test.false c.loop-b.invariant)
 
 pub returns : goal.returns
-returns c =
-    (
-      λ _.
-          sound_of (granted c.if-not-small.false c.marks_small-small.ensures)
-          (granted c.if-not-diagonal.false c.diagonal_yes-diagonal.ensures)
-          (λ a b ha hb. all c.loop-a-test.false c.loop-a.invariant a ha b hb),
-      λ _. refl,
-    )
+returns c = (
+  λ _.
+      sound_of (granted c.if-not-small.false c.marks_small-small.ensures)
+      (granted c.if-not-diagonal.false c.diagonal_yes-diagonal.ensures)
+      (λ a b ha hb. all c.loop-a-test.false c.loop-a.invariant a ha b hb),
+  λ _. refl,
+)

@@ -1,13 +1,8 @@
 -- `standing::sound::is_sound` meets its contract: every pair passed has what soundness asks of it.
 -- Assumes nothing.
-use mathlib.Core.Path.{refl}
 use Prim.Native.Nat.{ℕ, ◌<◌, ◌-◌}
-use native.Mathlib.Omega.{arith}
-use borrow.Author.Rules.{rules}
 use Rattle.standing.specs.Soundness.{PairStands}
-use Rattle.marks.proofs.Answers.{refuted, granted, never}
-use Rattle.marks.proofs.Upto.{Upto, none, more, all}
-use Rattle.standing.proofs.Soundness.{small_of, pair_of, sound_of}
+use Rattle.marks.proofs.Upto.{Upto}
 use Rattle.standing.proofs.sound.is_sound.Given as goal
 
 abbrev pub invariant-loop-b : goal.invariant-loop-b

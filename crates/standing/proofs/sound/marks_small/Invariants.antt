@@ -1,10 +1,8 @@
 -- `standing::sound::marks_small` meets its contract.
 -- Assumes nothing.
 use Prim.Native.Nat.{◌≤◌, ◌-◌}
-use native.Mathlib.Omega.{arith}
 use lib.ListN.{get_or}
-use Rattle.promise.proofs.Standing.{square}
-use Rattle.standing.proofs.Clear.{Clear, clear_none, clear_more, clear_all, small_clear}
+use Rattle.standing.proofs.Clear.{Clear}
 use Rattle.standing.proofs.sound.marks_small.Given as goal
 
 abbrev pub invariant-loop-i : goal.invariant-loop-i

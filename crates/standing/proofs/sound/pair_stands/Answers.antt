@@ -3,7 +3,6 @@
 use mathlib.Core.Path.{sym, ◌∙◌}
 use Rattle.marks.proofs.Shape.{reads}
 use Rattle.standing.proofs.Soundness.{yes_stands, open_stands, no_stands}
-use borrow.Author.Rules.{rules}
 use Rattle.standing.proofs.sound.pair_stands.Goals as goal
 
 pub returns-then-table-i-eq-YES : goal.returns-then-table-i-eq-YES

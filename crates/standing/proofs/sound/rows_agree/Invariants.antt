@@ -1,11 +1,9 @@
 -- `standing::sound::rows_agree` meets its contract: no class passed speaks against the pair.
 -- Assumes nothing.
 use Prim.Native.Nat.{◌-◌}
-use native.Mathlib.Omega.{arith}
 use Rattle.order.specs.Tables.{mark}
 use Rattle.standing.specs.Soundness.{Asks}
-use Rattle.standing.proofs.Clear.{Clear, clear_none, clear_more, clear_all, against_clear}
-use Rattle.marks.proofs.Shape.{row_below, row_reads}
+use Rattle.standing.proofs.Clear.{Clear}
 use Rattle.standing.proofs.sound.rows_agree.Given as goal
 
 abbrev pub invariant-loop-c : goal.invariant-loop-c

@@ -2,7 +2,6 @@
 -- head above.
 -- Assumes nothing.
 use mathlib.Core.Logic.Iff
-use borrow.Author.Rules.{rules}
 use Rattle.marks.proofs.Answers.{never}
 use Rattle.steps.proofs.Between.{direct_step}
 use Rattle.steps.proofs.direct.is_direct.Goals as goal

@@ -1,13 +1,9 @@
 -- `steps::direct::list_steps` meets its contract: the direct steps passed are noted.
 -- Assumes nothing.
-use mathlib.Core.Logic.{⊎_elim}
-use Prim.Native.Nat.{◌-◌, ◌≤◌, ◌<◌}
+use Prim.Native.Nat.{◌<◌}
 use native.Mathlib.Omega.{arith}
-use borrow.Author.Rules.{rules}
-use Rattle.promise.specs.Hierarchy.{Direct}
-use Rattle.promise.proofs.Hierarchy.{dec_direct}
 use Rattle.marks.proofs.Answers.{refuted, granted}
-use Rattle.buffers.proofs.Noting.{SoFar, Along, so_far_none, along_none, few, hit, miss, row_end, all_noted}
+use Rattle.buffers.proofs.Noting.{so_far_none, along_none, few, hit, miss, row_end, all_noted}
 use Rattle.steps.proofs.HeadsFound.{head_at}
 use Rattle.steps.proofs.Between.{none_yet, no_steps}
 use Rattle.steps.proofs.direct.list_steps.Goals as goal
@@ -62,7 +58,7 @@ loop-b-preserved c =
         carry = λ out h.
             let s = c.loop-b.invariant.1.carry out h in
             elim c.if-direct.branch [
-              then-direct w ↦
+              | then-direct w ↦
                   rw (w.steps-is, w.count-is)
                   (hit s (direct.0 w.if-direct.true) w.put_pair.auto.out w.put_pair.ensures)
               | else-direct w ↦ rw (w.steps-is, w.count-is) (miss s (refuted w.if-direct.false direct))

@@ -1,15 +1,9 @@
 -- `steps::direct::list_steps` meets its contract: the direct steps passed are noted.
 -- Assumes nothing.
-use mathlib.Core.Logic.{⊎_elim}
-use Prim.Native.Nat.{◌-◌, ◌≤◌, ◌<◌}
-use native.Mathlib.Omega.{arith}
-use borrow.Author.Rules.{rules}
+use Prim.Native.Nat.{◌-◌, ◌≤◌}
 use Rattle.promise.specs.Hierarchy.{Direct}
 use Rattle.promise.proofs.Hierarchy.{dec_direct}
-use Rattle.marks.proofs.Answers.{refuted, granted}
-use Rattle.buffers.proofs.Noting.{SoFar, Along, so_far_none, along_none, few, hit, miss, row_end, all_noted}
-use Rattle.steps.proofs.HeadsFound.{head_at}
-use Rattle.steps.proofs.Between.{none_yet, no_steps}
+use Rattle.buffers.proofs.Noting.{SoFar, Along}
 use Rattle.steps.proofs.direct.list_steps.Given as goal
 
 abbrev pub invariant-loop-b : goal.invariant-loop-b

@@ -1,6 +1,5 @@
 -- `steps::heads::equal` meets its contract.
 -- Assumes nothing.
-use borrow.Author.Rules.{rules}
 use Rattle.marks.proofs.Answers.{refuted, granted, never}
 use Rattle.steps.proofs.heads.equal.Goals as goal
 

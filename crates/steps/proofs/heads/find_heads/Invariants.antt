@@ -1,13 +1,9 @@
 -- `steps::heads::find_heads` meets its contract: every class passed has its head.
 -- Assumes nothing.
-use mathlib.Core.Path.{◌≡◌, refl, ◌∙◌}
+use mathlib.Core.Path.{◌≡◌}
 use mathlib.Core.List.{List}
-use Prim.Native.Nat.{ℕ, ◌+◌, ◌-◌, ◌≤◌, ◌<◌}
-use native.Mathlib.Decide.{ℕ_discrete}
-use native.Mathlib.Omega.{arith}
-use borrow.Author.Rules.{rules}
-use lib.ListN.{length, get_or, set, length-set}
-use lib.Seq.{get_or-set_same, get_or-set_other}
+use Prim.Native.Nat.{ℕ, ◌-◌, ◌≤◌, ◌<◌}
+use lib.ListN.{length, get_or}
 use Rattle.promise.specs.Hierarchy.{HeadOf}
 use Rattle.steps.proofs.heads.find_heads.Given as goal
 

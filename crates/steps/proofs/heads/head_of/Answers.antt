@@ -1,13 +1,9 @@
 -- `steps::heads::head_of` meets its contract: a is equal to itself, and each class passed is compared with the lowest
 -- so far.
 -- Assumes nothing.
-use mathlib.Core.Logic.{⊎_elim}
-use Prim.Native.Nat.{◌-◌}
 use native.Mathlib.Omega.{arith}
-use borrow.Author.Rules.{rules}
-use Rattle.promise.specs.Hierarchy.{Equal}
 use Rattle.marks.proofs.Answers.{refuted}
-use Rattle.steps.proofs.Lowest.{Lowest, lowest_none, lowest_pass, lowest_keep, lowest_take, lowest_least}
+use Rattle.steps.proofs.Lowest.{lowest_none, lowest_pass, lowest_keep, lowest_take, lowest_least}
 use Rattle.steps.proofs.Lowest.{lowest_has}
 use Rattle.steps.proofs.heads.head_of.Goals as goal
 use Rattle.steps.proofs.heads.head_of.Goals.{then-same+then-c-head, then-same+else-c-head, else-same}
@@ -23,7 +19,7 @@ loop-c-preserved c =
     let h = c.loop-c.invariant in
     let same = c.equal-same.ensures in
     elim c.if-same.branch [
-      then-same+then-c-head w ↦ rw w.head-is (lowest_take (omega arith) h (same.0 w.if-same.true) w.if-c-head.true)
+      | then-same+then-c-head w ↦ rw w.head-is (lowest_take (omega arith) h (same.0 w.if-same.true) w.if-c-head.true)
       | then-same+else-c-head w ↦ rw w.head-is (lowest_keep (omega arith) h w.if-c-head.false)
       | else-same w ↦ rw w.head-is (lowest_pass (omega arith) h (refuted w.if-same.false same))
     ]

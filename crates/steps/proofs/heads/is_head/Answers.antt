@@ -1,7 +1,6 @@
 -- `steps::heads::is_head` meets its contract.
 -- Assumes nothing.
 use native.Mathlib.Omega.{arith}
-use borrow.Author.Rules.{rules}
 use borrow.Author.Tests.{eq-eqb, eqb-true}
 use Rattle.steps.proofs.heads.is_head.Goals as goal
 

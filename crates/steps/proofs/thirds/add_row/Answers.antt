@@ -1,9 +1,8 @@
 -- `steps::thirds::add_row` meets its contract: the flags passed have the row added.
 -- Assumes nothing.
-use Prim.Native.Nat.{◌-◌}
 use native.Mathlib.Omega.{arith}
 use Rattle.marks.proofs.Shape.{row_below}
-use Rattle.steps.proofs.Between.{Adding, adding_none, adding_more, adding_all}
+use Rattle.steps.proofs.Between.{adding_none, adding_more, adding_all}
 use Rattle.steps.proofs.thirds.add_row.Goals as goal
 
 pub index-row-requires : goal.index-row-requires

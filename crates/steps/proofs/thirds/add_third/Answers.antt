@@ -1,7 +1,6 @@
 -- `steps::thirds::add_third` meets its contract: the flag of c is put back.
 -- Assumes nothing.
 use native.Mathlib.Omega.{arith}
-use borrow.Author.Rules.{rules}
 use Rattle.steps.proofs.Between.{put_back}
 use Rattle.steps.proofs.thirds.add_third.Goals as goal
 

@@ -1,12 +1,8 @@
 -- `steps::thirds::find_thirds` meets its contract: the flags show the third heads among the classes passed.
 -- Assumes nothing.
-use mathlib.Core.Logic.{⊎_elim}
-use Prim.Native.Nat.{◌-◌}
 use native.Mathlib.Omega.{arith}
-use borrow.Author.Rules.{rules}
-use borrow.Author.Tests.{not-false}
 use Rattle.marks.proofs.Answers.{refuted}
-use Rattle.steps.proofs.Between.{ThirdsBelow, thirds_none, thirds_add, thirds_pass, thirds_known, thirds_all}
+use Rattle.steps.proofs.Between.{thirds_none, thirds_add, thirds_pass, thirds_known, thirds_all}
 use Rattle.steps.proofs.thirds.find_thirds.Goals as goal
 use Rattle.steps.proofs.thirds.find_thirds.Goals.{then-above+then-not-thirds-c, then-above+else-not-thirds-c, else-above}
 
@@ -28,7 +24,7 @@ loop-c-preserved c =
     let above = c.is_above-above.ensures in
     let sound = c.requires.0.table.sound in
     elim c.if-above.branch [
-      then-above+then-not-thirds-c w ↦
+      | then-above+then-not-thirds-c w ↦
           rw w.thirds-is
           (thirds_add (omega arith) h (above.0 w.if-above.true) w.add_third.auto.thirds w.add_third.ensures)
       | then-above+else-not-thirds-c w ↦ rw w.thirds-is (thirds_known (omega arith) h sound w.if-not-thirds-c.false)

@@ -1,6 +1,5 @@
 -- `steps::thirds::is_above` meets its contract: each part is tested in turn.
 -- Assumes nothing.
-use borrow.Author.Rules.{rules}
 use Rattle.marks.proofs.Answers.{refuted, granted, never}
 use Rattle.steps.proofs.HeadsFound.{head_at}
 use Rattle.steps.proofs.thirds.is_above.Goals as goal
