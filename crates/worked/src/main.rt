@@ -7,11 +7,12 @@ mod calls;
 mod script;
 mod shown;
 
-use libc::STDIN_FILENO;
+use std::io;
+use std::io::Read;
 
-fn main() {
-    let mut input = [0u8; 4096];
-    let got = io::read_full(STDIN_FILENO, &mut input);
+fn main(rt: HostRuntime) -> io::Result<()> {
+    let mut input = Vec::new(rt.alloc());
+    rt.reader().take(4096).read_to_end(&mut input)?;
     let mut table = [7u8; 16384];
-    script::run(&input[..got], &mut table);
+    script::run(&rt, &input, &mut table)
 }

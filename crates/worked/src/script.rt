@@ -17,11 +17,11 @@
 //
 // A number is below 256, and a line has at most 32.
 ghost use Rattle.std.specs.Prelude.{◌≤◌, length};
-ghost use Rattle.io.specs.Counts.{IsPrefixLen};
 
 use crate::calls;
 use crate::shown::text;
 use promise::{Clip, MOST_CLASSES, Reply, Session};
+use std::io;
 
 // The byte at an index, or another one where there is none.
 fn byte_at(bytes: &[u8], i: usize, other: u8) -> u8 {
@@ -60,7 +60,7 @@ fn with_digit(value: u8, letter: u8) -> u8 {
 
 // The numbers of a line, as far as there is room, and how many they are.
 fn numbers(line: &[u8], out: &mut [u8]) -> usize
-    ensures { IsPrefixLen result out.new }
+    ensures { result ≤ length out.new }
 {
     let mut count: usize = 0;
     let mut value: u8 = 0;
@@ -91,7 +91,7 @@ fn number_at(given: &[u8], i: usize) -> usize {
 // So many bytes are filled: with those given, and behind them with another one again and again. Gives how many; where
 // there is no room, 0.
 fn filled(bytes: &mut [u8], count: usize, given: &[u8], other: u8) -> usize
-    ensures { IsPrefixLen result bytes.new }
+    ensures { result ≤ length bytes.new }
 {
     if bytes.len() < count {
         return 0;
@@ -104,8 +104,8 @@ fn filled(bytes: &mut [u8], count: usize, given: &[u8], other: u8) -> usize
 
 // How much of the table is lent after a line.
 fn lend(lent: usize, table: &mut [u8], line: &[u8]) -> usize
-    requires { IsPrefixLen lent table.old }
-    ensures { IsPrefixLen result table.new }
+    requires { lent ≤ length table.old }
+    ensures { result ≤ length table.new }
 {
     let mut given = [0u8; 32];
     let count = numbers(line, &mut given);
@@ -123,35 +123,36 @@ fn lend(lent: usize, table: &mut [u8], line: &[u8]) -> usize
 }
 
 // A call is printed as it stands in the script.
-fn show_call(line: &[u8]) {
-    text(line);
-    text(b": ");
+fn show_call(rt: &impl Print, line: &[u8]) -> io::Result<()> {
+    text(rt, line)?;
+    text(rt, b": ")
 }
 
 // A call that writes to buffers. They start as nines, so that bytes left alone show.
 fn write(
+    rt: &impl Print,
     session: Session,
     table: &[u8],
     first: u8,
     given: &[u8],
     one: &mut [u8],
     other: &mut [u8],
-) {
+) -> io::Result<()> {
     let a = number_at(given, 0);
     let b = number_at(given, 1);
     match first {
         b'h' => {
             let heads = filled(&mut *one, a, b"", 9);
             let steps = filled(&mut *other, b, b"", 9);
-            calls::hierarchy(session, table, &mut one[..heads], &mut other[..steps]);
+            calls::hierarchy(rt, session, table, &mut one[..heads], &mut other[..steps])
         }
         b'l' => {
             let rungs = filled(&mut *one, number_at(given, 2), b"", 9);
-            calls::ladder(session, table, a, b, &mut one[..rungs]);
+            calls::ladder(rt, session, table, a, b, &mut one[..rungs])
         }
         _ => {
             let out = filled(&mut *one, a, b"", 9);
-            calls::write(session, table, &mut one[..out]);
+            calls::write(rt, session, table, &mut one[..out])
         }
     }
 }
@@ -193,50 +194,51 @@ fn session_of(classes: usize, tests: usize) -> Session {
 }
 
 // What a line does on the table lent, and the session after it.
-fn follow(session: Session, table: &mut [u8], line: &[u8]) -> Session {
+fn follow(rt: &impl Print, session: Session, table: &mut [u8], line: &[u8]) -> io::Result<Session> {
     let mut given = [0u8; 32];
     let count = numbers(line, &mut given);
     let first = byte_at(line, 0, b' ');
     match first {
-        b'b' | b'm' => session,
-        b's' => session_of(number_at(&given, 0), number_at(&given, 1)),
+        b'b' | b'm' => Ok(session),
+        b's' => Ok(session_of(number_at(&given, 0), number_at(&given, 1))),
         b'f' | b't' | b'a' | b'c' => {
-            show_call(line);
+            show_call(rt, line)?;
             let reply = change(session, &mut *table, line, &given[..count]);
-            calls::replied(reply, &*table)
+            calls::replied(rt, reply, &*table)
         }
         b'r' => {
-            text(b"read: ");
+            text(rt, b"read: ")?;
             let reply = dawnhangra::read(&given[..count], &mut *table);
-            calls::replied(reply, &*table)
+            calls::replied(rt, reply, &*table)
         }
         b'o' => {
-            calls::open_pairs(session, &*table);
-            session
+            calls::open_pairs(rt, session, &*table)?;
+            Ok(session)
         }
         b'h' | b'l' | b'w' => {
             let mut one = [0u8; 256];
             let mut other = [0u8; 256];
-            write(session, &*table, first, &given, &mut one, &mut other);
-            session
+            write(rt, session, &*table, first, &given, &mut one, &mut other)?;
+            Ok(session)
         }
         _ => {
-            text(line);
-            text(b"\n");
-            session
+            text(rt, line)?;
+            text(rt, b"\n")?;
+            Ok(session)
         }
     }
 }
 
 // Every line is followed, one after the other.
-pub fn run(script: &[u8], table: &mut [u8]) {
+pub fn run(rt: &impl Print, script: &[u8], table: &mut [u8]) -> io::Result<()> {
     let mut session = session_of(0, 0);
     let mut lent: usize = 0;
     let mut at: usize = 0;
     while at < script.len() {
         let end = line_end(script, at);
         lent = lend(lent, &mut *table, &script[at..end]);
-        session = follow(session, &mut table[..lent], &script[at..end]);
+        session = follow(rt, session, &mut table[..lent], &script[at..end])?;
         at = end + 1;
     }
+    Ok(())
 }

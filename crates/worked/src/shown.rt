@@ -1,53 +1,53 @@
 // What a call gave, in words: its reply, how many marks are open, what next asks, and the marks row by row; or a count
 // and the bytes of a buffer.
-use libc::STDOUT_FILENO;
 use promise::{Counted, Question, Reply};
+use std::io;
 
-pub fn text(words: &[u8]) {
-    io::write_all(STDOUT_FILENO, words);
+pub fn text(rt: &impl Print, words: &[u8]) -> io::Result<()> {
+    rt.write_all(words)
 }
 
-fn number(x: usize) {
-    io::print_decimal(STDOUT_FILENO, x as u64);
+fn number(rt: &impl Print, x: usize) -> io::Result<()> {
+    rt.print(x)
 }
 
 // Words and the number that they are about.
-fn labelled(words: &[u8], x: usize) {
-    text(words);
-    number(x);
+fn labelled(rt: &impl Print, words: &[u8], x: usize) -> io::Result<()> {
+    text(rt, words)?;
+    number(rt, x)
 }
 
 // Two class numbers.
-pub fn pair(a: usize, b: usize) {
-    number(a);
-    labelled(b" ", b);
+pub fn pair(rt: &impl Print, a: usize, b: usize) -> io::Result<()> {
+    number(rt, a)?;
+    labelled(rt, b" ", b)
 }
 
-fn refusal(why: u8, place: usize) {
-    labelled(b" refused ", why as usize);
-    labelled(b" place ", place);
+fn refusal(rt: &impl Print, why: u8, place: usize) -> io::Result<()> {
+    labelled(rt, b" refused ", why as usize)?;
+    labelled(rt, b" place ", place)
 }
 
 // What the calls that count give, behind the call.
-pub fn counted(call: &[u8], given: Counted) {
-    text(call);
+pub fn counted(rt: &impl Print, call: &[u8], given: Counted) -> io::Result<()> {
+    text(rt, call)?;
     match given {
-        Counted::Count(count) => labelled(b" count ", count),
-        Counted::Refused { number: why, place } => refusal(why, place),
+        Counted::Count(count) => labelled(rt, b" count ", count),
+        Counted::Refused { number: why, place } => refusal(rt, why, place),
     }
 }
 
 // What next gives.
-fn question(asked: Question) {
+fn question(rt: &impl Print, asked: Question) -> io::Result<()> {
     match asked {
         Question::Ask { lower, upper } => {
-            text(b" next ask ");
-            pair(lower, upper);
+            text(rt, b" next ask ")?;
+            pair(rt, lower, upper)
         }
-        Question::Done => text(b" next done"),
+        Question::Done => text(rt, b" next done"),
         Question::Refused { number: why, place } => {
-            text(b" next");
-            refusal(why, place);
+            text(rt, b" next")?;
+            refusal(rt, why, place)
         }
     }
 }
@@ -60,35 +60,37 @@ fn begins_row(n: usize, i: usize) -> bool {
     i % n == 0
 }
 
-fn mark(n: usize, i: usize, m: u8) {
+fn mark(rt: &impl Print, n: usize, i: usize, m: u8) -> io::Result<()> {
     if begins_row(n, i) {
-        text(b" ");
+        text(rt, b" ")?;
     }
-    number(m as usize);
+    number(rt, m as usize)
 }
 
 // The marks, a space before each row of n.
-fn marks(n: usize, table: &[u8]) {
-    text(b" marks");
+fn marks(rt: &impl Print, n: usize, table: &[u8]) -> io::Result<()> {
+    text(rt, b" marks")?;
     let mut i: usize = 0;
     while i < table.len() {
-        mark(n, i, table[i]);
+        mark(rt, n, i, table[i])?;
         i += 1;
     }
+    Ok(())
 }
 
-fn spaced(x: u8) {
-    labelled(b" ", x as usize);
+fn spaced(rt: &impl Print, x: u8) -> io::Result<()> {
+    labelled(rt, b" ", x as usize)
 }
 
 // All bytes of a buffer behind its name, a space before each.
-pub fn bytes(name: &[u8], buffer: &[u8]) {
-    text(name);
+pub fn bytes(rt: &impl Print, name: &[u8], buffer: &[u8]) -> io::Result<()> {
+    text(rt, name)?;
     let mut i: usize = 0;
     while i < buffer.len() {
-        spaced(buffer[i]);
+        spaced(rt, buffer[i])?;
         i += 1;
     }
+    Ok(())
 }
 
 // How many marks are open: 01's byte for open is 0.
@@ -106,16 +108,16 @@ fn open_marks(table: &[u8]) -> usize {
 
 // A whole line: what the call replied, how many marks are open, what next gives, and the marks, unless they are too
 // many to print.
-pub fn reply(given: Reply, asked: Question, table: &[u8]) {
+pub fn reply(rt: &impl Print, given: Reply, asked: Question, table: &[u8]) -> io::Result<()> {
     let session = given.session;
-    labelled(b"number ", given.number as usize);
-    labelled(b" place ", given.place);
-    labelled(b" classes ", session.classes);
-    labelled(b" tests ", session.tests);
-    labelled(b" open ", open_marks(table));
-    question(asked);
+    labelled(rt, b"number ", given.number as usize)?;
+    labelled(rt, b" place ", given.place)?;
+    labelled(rt, b" classes ", session.classes)?;
+    labelled(rt, b" tests ", session.tests)?;
+    labelled(rt, b" open ", open_marks(table))?;
+    question(rt, asked)?;
     if table.len() <= 16 {
-        marks(session.classes, table);
+        marks(rt, session.classes, table)?;
     }
-    text(b"\n");
+    text(rt, b"\n")
 }

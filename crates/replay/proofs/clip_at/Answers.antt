@@ -1,11 +1,10 @@
 -- `replay::clip_at` meets its contract: flag by flag.
 -- Assumes nothing.
 use mathlib.Core.Path.{refl}
-use Prim.Native.Nat.{◌-◌, ◌*◌}
+use Prim.Native.Nat.{◌*◌}
 use native.Mathlib.Omega.{arith}
 use lib.ListN.{drop}
-use Rattle.promise.specs.Clips.{Flagged}
-use Rattle.passes.proofs.Pass.{Gathered, gather_start, gather_next}
+use Rattle.passes.proofs.Pass.{gather_start, gather_next}
 use Rattle.replay.proofs.Replays.{clip_gathered}
 use Rattle.replay.proofs.clip_at.Goals as goal
 

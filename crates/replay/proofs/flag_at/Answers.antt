@@ -6,7 +6,6 @@ use Prim.Native.Nat.{◌+◌, ◌*◌}
 use native.Mathlib.Omega.{arith}
 use lib.Seq.{get_or-drop}
 use Rattle.promise.proofs.Flags.{flag_behind}
-use borrow.Author.Rules.{rules}
 use Rattle.replay.proofs.flag_at.Goals as goal
 
 pub returns-then-flags-k : goal.returns-then-flags-k

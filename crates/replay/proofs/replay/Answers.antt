@@ -1,12 +1,9 @@
 -- `replay::replay` meets its contract.
 -- Assumes nothing.
-use mathlib.Core.Path.{◌≡◌, refl, ◌∙◌, ap}
-use Prim.Native.Nat.{◌≤◌, ◌-◌, ◌/◌}
+use mathlib.Core.Path.{refl, ◌∙◌, ap}
 use native.Mathlib.Omega.{arith}
-use lib.ListN.{length}
-use borrow.Author.Rules.{rules}
 use Rattle.replay.specs.Replay.{first_calls}
-use Rattle.replay.proofs.Replays.{MadeSoFar, none_made, one_more}
+use Rattle.replay.proofs.Replays.{none_made, one_more}
 use Rattle.replay.proofs.replay.Goals as goal
 
 pub returns-then-first-ne0 : goal.returns-then-first-ne0
@@ -37,8 +34,8 @@ returns c =
             run =
                 record {
                   reply = c.fresh-first.result;
-                  table = c.fresh-first.new.1.0;
-                  c = c.fresh-first.ensures;
+                  table = c.fresh-first.new.table;
+                  began = c.fresh-first.ensures;
                   accepted = c.if-first-ne0.false;
                   run = so_far.run;
                 };

@@ -1,12 +1,9 @@
 -- `replay::replay` meets its contract.
 -- Assumes nothing.
-use mathlib.Core.Path.{◌≡◌, refl, ◌∙◌, ap}
+use mathlib.Core.Path.{◌≡◌}
 use Prim.Native.Nat.{◌≤◌, ◌-◌, ◌/◌}
-use native.Mathlib.Omega.{arith}
 use lib.ListN.{length}
-use borrow.Author.Rules.{rules}
-use Rattle.replay.specs.Replay.{first_calls}
-use Rattle.replay.proofs.Replays.{MadeSoFar, none_made, one_more}
+use Rattle.replay.proofs.Replays.{MadeSoFar}
 use Rattle.replay.proofs.replay.Given as goal
 
 abbrev pub invariant-loop-i : goal.invariant-loop-i
