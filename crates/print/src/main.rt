@@ -1,6 +1,9 @@
 // The printing program.
 #![tactic(auto)]
 
-fn main() {
-    printing::print_input();
+use printing::print_input;
+use std::io;
+
+fn main(rt: HostRuntime) -> io::Result<()> {
+    print_input(&mut rt.stdin(), &mut rt.stdout(), &mut rt.stderr())
 }

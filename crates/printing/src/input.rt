@@ -1,8 +1,8 @@
-// Standard input, read whole or not at all.
+// The input, read whole or not at all.
 ghost use Rattle.std.specs.Prelude.{◌≤◌, length};
 ghost use Rattle.printing.specs.Answers.{Held};
 
-use libc::STDIN_FILENO;
+use std::io::Read;
 
 // What came of reading: how many bytes there are, and whether a read failed.
 #[derive(Clone, Copy)]
@@ -12,23 +12,28 @@ pub struct Filled {
 }
 
 // One read.
-fn read_some(part: &mut [u8]) -> Filled
+fn read_some<R: Read>(reader: &mut R, part: &mut [u8]) -> Filled
     ensures { result.count ≤ length part.new }
 {
-    let got = libc::read(STDIN_FILENO, &mut *part);
-    Filled {
-        count: io::count(got, &*part),
-        failed: got < 0,
+    match reader.read(part) {
+        Ok(count) => Filled {
+            count,
+            failed: false,
+        },
+        Err(_) => Filled {
+            count: 0,
+            failed: true,
+        },
     }
 }
 
 // Reads until the buffer is full, the input ends or a read fails.
-pub fn fill(input: &mut [u8]) -> Filled
+pub fn fill<R: Read>(reader: &mut R, input: &mut [u8]) -> Filled
     ensures { result.count ≤ length input.new }
 {
     let mut count: usize = 0;
     while count < input.len() {
-        let some = read_some(&mut input[count..]);
+        let some = read_some(&mut *reader, &mut input[count..]);
         if some.count == 0 {
             return Filled {
                 count: count,
@@ -43,7 +48,7 @@ pub fn fill(input: &mut [u8]) -> Filled
     }
 }
 
-// What standard input gave: how many bytes stand at the front of the buffer, how many came behind a full one, and
+// What the input gave: how many bytes stand at the front of the buffer, how many came behind a full one, and
 // whether a read failed.
 #[derive(Clone, Copy)]
 pub struct Gathered {
@@ -53,10 +58,10 @@ pub struct Gathered {
 }
 
 // Fills the buffer, and where it is full asks for one byte more.
-pub fn gather(input: &mut [u8]) -> Gathered
+pub fn gather<R: Read>(reader: &mut R, input: &mut [u8]) -> Gathered
     ensures { Held input.new result.count result.behind }
 {
-    let filled = fill(&mut *input);
+    let filled = fill(&mut *reader, &mut *input);
     if filled.count < input.len() {
         return Gathered {
             count: filled.count,
@@ -65,7 +70,7 @@ pub fn gather(input: &mut [u8]) -> Gathered
         };
     }
     let mut byte: [u8; 1] = [0; 1];
-    let more = fill(&mut byte);
+    let more = fill(reader, &mut byte);
     Gathered {
         count: filled.count,
         behind: more.count,

@@ -1,5 +1,5 @@
-// The printing program's one function: it reads a book from standard input and writes what the library says of it to
-// standard output.
+// The printing program's one function: it reads a book from its input and writes what the library says of it to its
+// output.
 #![tactic(auto)]
 
 mod input;
@@ -8,8 +8,9 @@ ghost use Rattle.printing.specs.Answers.{Room, Answered, Input, Decided};
 
 use dawnhangra::read;
 use input::gather;
-use libc::{STDERR_FILENO, STDOUT_FILENO};
 use lines::{MOST_INPUT, report, report_too_long};
+use std::io;
+use std::io::{Read, Write};
 
 // What is written of a book. Once the class count is known, the first n*n bytes of the table are what is lent.
 fn answer(
@@ -29,6 +30,7 @@ fn answer(
 
 // What is written of the input: the line of 15 where more came than the buffer holds, and what there is to say of the
 // book where it did not.
+#[tactic(auto, using(crate::proofs::Deciding::more_decided, crate::proofs::Deciding::whole_decided))]
 fn decide(
     input: &[u8],
     count: usize,
@@ -48,23 +50,26 @@ fn decide(
     answer(&input[..count], table, heads, steps, text)
 }
 
-// A read that fails is no verdict: it is said on standard error alone.
-fn complain() {
-    io::write_all(STDERR_FILENO, b"dawnhangra: the input cannot be read\n");
+// A read that fails is no verdict: it is said among the errors alone.
+fn complain<E: Write>(errors: &mut E) -> io::Result<()> {
+    errors.write_all(b"dawnhangra: the input cannot be read\n")
 }
 
 // What there is to decide is decided above. What is left here is no part of a contract: that the numbers of bytes read
 // are passed on as reading gave them, and that the text is written as it was put.
-pub fn print_input() {
+pub fn print_input<R: Read, W: Write, E: Write>(
+    reader: &mut R,
+    writer: &mut W,
+    errors: &mut E,
+) -> io::Result<()> {
     let mut table: [u8; 16384] = [0; 16384];
     let mut input: [u8; MOST_INPUT] = [0; MOST_INPUT];
     let mut heads: [u8; 128] = [0; 128];
     let mut steps: [u8; 8192] = [0; 8192];
     let mut text: [u8; 65536] = [0; 65536];
-    let gathered = gather(&mut input);
+    let gathered = gather(reader, &mut input);
     if gathered.failed {
-        complain();
-        return;
+        return complain(errors);
     }
     let size = decide(
         &input,
@@ -75,5 +80,5 @@ pub fn print_input() {
         &mut steps,
         &mut text,
     );
-    io::write_all(STDOUT_FILENO, &text[..size]);
+    writer.write_all(&text[..size])
 }

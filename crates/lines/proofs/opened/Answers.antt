@@ -1,7 +1,6 @@
 -- `lines::opened` meets its contract: the count is not refused.
 -- Assumes nothing.
 use Rattle.lines.proofs.Saying.{pairs_counted, pairs_never_refused}
-use borrow.Author.Rules.{rules}
 use Rattle.lines.proofs.opened.Goals as goal
 
 pub returns-in-Count : goal.returns-in-Count

@@ -3,7 +3,6 @@
 use native.Mathlib.Omega.{arith}
 use lib.ListN.{length-append}
 use Rattle.lines.proofs.Saying.{asked_first, question_short, never_done, never_refused}
-use borrow.Author.Rules.{rules}
 use Rattle.lines.proofs.put_question.Goals as goal
 
 pub put_line-requires : goal.put_line-requires

@@ -5,7 +5,6 @@ use native.Mathlib.Omega.{arith}
 use lib.ListN.{length-append}
 use Rattle.buffers.proofs.Decimals.{decimal_longest}
 use Rattle.lines.proofs.Saying.{counts_short, reported_refused, reported_settled, reported_open}
-use borrow.Author.Rules.{rules}
 use Rattle.lines.proofs.report.Goals as goal
 
 pub put_line-requires : goal.put_line-requires
@@ -37,7 +36,7 @@ put_settled-requires c =
           omega (
             arith,
             c.requires.text_room,
-            c.put_counts-behind.auto.0,
+            c.put_counts-behind.auto.text,
             simp length-append at c.put_counts-behind.ensures.ends,
             counts_short c.requires c.if-reply-ne0.false c.opened-pairs.ensures,
           );
@@ -49,18 +48,17 @@ returns-then-pairs-eq0 c =
     c.put_counts-behind.ensures c.put_settled.ensures
 
 pub put_question-requires : goal.put_question-requires
-put_question-requires c =
-    (
-      c.requires.stands c.if-reply-ne0.false,
-      omega (arith, c.opened-pairs.ensures, c.if-pairs-eq0.false),
-      omega (
-        arith,
-        c.requires.text_room,
-        c.put_counts-behind.auto.0,
-        simp length-append at c.put_counts-behind.ensures.ends,
-        counts_short c.requires c.if-reply-ne0.false c.opened-pairs.ensures,
-      ),
-    )
+put_question-requires c = (
+  c.requires.stands c.if-reply-ne0.false,
+  omega (arith, c.opened-pairs.ensures, c.if-pairs-eq0.false),
+  omega (
+    arith,
+    c.requires.text_room,
+    c.put_counts-behind.auto.text,
+    simp length-append at c.put_counts-behind.ensures.ends,
+    counts_short c.requires c.if-reply-ne0.false c.opened-pairs.ensures,
+  ),
+)
 
 pub returns : goal.returns
 returns c =

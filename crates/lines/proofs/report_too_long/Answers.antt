@@ -3,7 +3,6 @@
 use native.Mathlib.Omega.{arith}
 use lib.ListN.{length-append}
 use Rattle.buffers.proofs.Decimals.{decimal_written}
-use borrow.Author.Rules.{rules}
 use Rattle.lines.proofs.report_too_long.Goals as goal
 
 pub put_line-requires : goal.put_line-requires

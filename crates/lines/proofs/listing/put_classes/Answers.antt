@@ -1,28 +1,18 @@
 -- `lines::listing::put_classes` meets its contract: the lines of the classes passed stand there.
 -- Assumes nothing.
 use mathlib.Core.Path.{◌≡◌}
-use Prim.Native.Nat.{◌-◌, ◌≤◌}
 use native.Mathlib.Omega.{arith}
-use lib.ListN.{get_or, take, length-append}
-use Rattle.lines.specs.Lines.{class_lines}
+use lib.ListN.{get_or, length-append}
 use Rattle.buffers.proofs.Placing.{put_length}
-use Rattle.lines.specs.Put.{LinesPut}
 use Rattle.lines.proofs.LineByLine.{byte_short, no_line, class_put}
 use Rattle.lines.proofs.listing.put_classes.Goals as goal
 
 pub loop-i-init : goal.loop-i-init
 loop-i-init c = (omega arith, no_line (omega (arith, c.requires.2)))
 
-pub bounds-heads-i : goal.bounds-heads-i
-bounds-heads-i c = omega (arith, c.requires.1)
-
-pub overflow_cast-heads : goal.overflow_cast-heads
-overflow_cast-heads c = omega (arith, c.shared_slice_known-in-loop-i-1.given c.loop-i.i)
-
 pub put_line-behind-requires : goal.put_line-behind-requires
 put_line-behind-requires c =
     let l = c.loop-i in
-    let head = c.shared_slice_known-in-loop-i-1.given l.i in
     simp length-append
     (omega (
       arith,
@@ -34,12 +24,11 @@ put_line-behind-requires c =
     ))
 
 pub loop-i-preserved : goal.loop-i-preserved
-loop-i-preserved c =
-    let head = c.shared_slice_known-in-loop-i-1.given c.loop-i.i in (
-      omega arith,
-      class_put c.loop-i.i c.args.heads.now (omega (arith, c.requires.1)) (omega (arith, c.requires.0))
-          (omega arith) c.loop-i.invariant.1 c.put_line-behind.ensures,
-    )
+loop-i-preserved c = (
+  omega arith,
+  class_put c.loop-i.i c.args.heads.now (omega (arith, c.requires.1)) (omega (arith, c.requires.0))
+      (omega arith) c.loop-i.invariant.1 c.put_line-behind.ensures,
+)
 
 pub returns : goal.returns
 returns c =

@@ -1,13 +1,9 @@
 -- `lines::listing::put_classes` meets its contract: the lines of the classes passed stand there.
 -- Assumes nothing.
-use mathlib.Core.Path.{◌≡◌}
 use Prim.Native.Nat.{◌-◌, ◌≤◌}
-use native.Mathlib.Omega.{arith}
-use lib.ListN.{get_or, take, length-append}
+use lib.ListN.{take}
 use Rattle.lines.specs.Lines.{class_lines}
-use Rattle.buffers.proofs.Placing.{put_length}
 use Rattle.lines.specs.Put.{LinesPut}
-use Rattle.lines.proofs.LineByLine.{byte_short, no_line, class_put}
 use Rattle.lines.proofs.listing.put_classes.Given as goal
 
 abbrev pub invariant-loop-i : goal.invariant-loop-i

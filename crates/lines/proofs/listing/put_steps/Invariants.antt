@@ -1,13 +1,8 @@
 -- `lines::listing::put_steps` meets its contract: the lines of the steps passed stand there.
 -- Assumes nothing.
-use mathlib.Core.Path.{◌≡◌}
-use Prim.Native.Nat.{◌+◌, ◌*◌, ◌-◌, ◌≤◌}
-use native.Mathlib.Omega.{arith}
-use lib.ListN.{get_or, length-append}
+use Prim.Native.Nat.{◌-◌, ◌≤◌}
 use Rattle.lines.specs.Lines.{step_lines}
 use Rattle.lines.specs.Put.{LinesPut, pairs_in}
-use Rattle.buffers.proofs.Placing.{put_length}
-use Rattle.lines.proofs.LineByLine.{byte_short, no_line, step_put}
 use Rattle.lines.proofs.listing.put_steps.Given as goal
 
 abbrev pub invariant-loop-i : goal.invariant-loop-i

@@ -3,7 +3,6 @@
 use native.Mathlib.Omega.{arith}
 use lib.ListN.{length-append}
 use Rattle.buffers.proofs.Placing.{put_then}
-use borrow.Author.Rules.{rules}
 use Rattle.lines.proofs.text.put_counts.Goals as goal
 
 pub put_labelled-behind-requires : goal.put_labelled-behind-requires
@@ -11,7 +10,7 @@ put_labelled-behind-requires c = omega (arith, simp length-append at c.requires)
 
 pub put_further-behind-requires : goal.put_further-behind-requires
 put_further-behind-requires c =
-    omega (arith, simp length-append at c.requires, c.put_labelled-behind.ensures.ends, c.put_labelled-behind.auto.0)
+    omega (arith, simp length-append at c.requires, c.put_labelled-behind.ensures.ends, c.put_labelled-behind.auto.text)
 
 pub put_further-behind-requires-2 : goal.put_further-behind-requires-2
 put_further-behind-requires-2 c =
@@ -19,9 +18,9 @@ put_further-behind-requires-2 c =
       arith,
       simp length-append at c.requires,
       c.put_labelled-behind.ensures.ends,
-      c.put_labelled-behind.auto.0,
+      c.put_labelled-behind.auto.text,
       c.put_further-behind.ensures.ends,
-      c.put_further-behind.auto.0,
+      c.put_further-behind.auto.text,
     )
 
 pub put_byte-requires : goal.put_byte-requires
@@ -30,11 +29,11 @@ put_byte-requires c =
       arith,
       simp length-append at c.requires,
       c.put_labelled-behind.ensures.ends,
-      c.put_labelled-behind.auto.0,
+      c.put_labelled-behind.auto.text,
       c.put_further-behind.ensures.ends,
-      c.put_further-behind.auto.0,
+      c.put_further-behind.auto.text,
       c.put_further-behind-2.ensures.ends,
-      c.put_further-behind-2.auto.0,
+      c.put_further-behind-2.auto.text,
     )
 
 pub returns : goal.returns

@@ -1,7 +1,6 @@
 -- `lines::text::put_further` meets its contract: the letter stands behind the space.
 -- Assumes nothing.
 use Rattle.buffers.proofs.Placing.{put_then}
-use borrow.Author.Rules.{rules}
 use Rattle.lines.proofs.text.put_further.Goals as goal
 
 pub returns : goal.returns

@@ -1,7 +1,6 @@
 -- `lines::text::put_labelled` meets its contract: the number stands behind the letter.
 -- Assumes nothing.
 use Rattle.buffers.proofs.Placing.{put_then}
-use borrow.Author.Rules.{rules}
 use Rattle.lines.proofs.text.put_labelled.Goals as goal
 
 pub returns : goal.returns

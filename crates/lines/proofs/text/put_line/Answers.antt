@@ -3,7 +3,6 @@
 use native.Mathlib.Omega.{arith}
 use lib.ListN.{length-append}
 use Rattle.buffers.proofs.Placing.{put_then}
-use borrow.Author.Rules.{rules}
 use Rattle.lines.proofs.text.put_line.Goals as goal
 
 pub put_labelled-behind-requires : goal.put_labelled-behind-requires
@@ -11,7 +10,7 @@ put_labelled-behind-requires c = omega (arith, simp length-append at c.requires)
 
 pub put_spaced-behind-requires : goal.put_spaced-behind-requires
 put_spaced-behind-requires c =
-    omega (arith, simp length-append at c.requires, c.put_labelled-behind.ensures.ends, c.put_labelled-behind.auto.0)
+    omega (arith, simp length-append at c.requires, c.put_labelled-behind.ensures.ends, c.put_labelled-behind.auto.text)
 
 pub put_byte-requires : goal.put_byte-requires
 put_byte-requires c =
@@ -19,9 +18,9 @@ put_byte-requires c =
       arith,
       simp length-append at c.requires,
       c.put_labelled-behind.ensures.ends,
-      c.put_labelled-behind.auto.0,
+      c.put_labelled-behind.auto.text,
       c.put_spaced-behind.ensures.ends,
-      c.put_spaced-behind.auto.0,
+      c.put_spaced-behind.auto.text,
     )
 
 pub returns : goal.returns

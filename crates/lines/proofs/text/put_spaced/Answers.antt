@@ -1,7 +1,6 @@
 -- `lines::text::put_spaced` meets its contract: the number stands behind the space.
 -- Assumes nothing.
 use Rattle.buffers.proofs.Placing.{put_then}
-use borrow.Author.Rules.{rules}
 use Rattle.lines.proofs.text.put_spaced.Goals as goal
 
 pub returns : goal.returns
