@@ -15,7 +15,8 @@ import sys
 
 WORD = re.compile(r"[^\s(){}\[\];,.:\u25cc\"`|\u2261]+")
 DECLARED = re.compile(
-    r"^\s*(?:(?:abbrev|unfoldable|pub|record|data|ruleset)\s+)*(?:\{[^}]*\}\s*)?([^\s(){}:;=,.\u03bb\u25cc\"]+)\s*(?::|=|\()"
+    r"^\s*(?:(?:abbrev|unfoldable|pub|record|data|ruleset)\s+)*(?:\{[^}]*\}\s*)?"
+    r"([^\s(){}:;=,.\u03bb\u25cc\"]+)\s*(?::|=|\()"
 )
 PLAIN = re.compile(r"^[A-Za-z][A-Za-z0-9_'\u2080-\u2089?-]*$")
 # Names that the toolchain's script has turned in code and proofs already; pages and edits still have the old ones.

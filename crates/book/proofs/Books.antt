@@ -43,7 +43,11 @@ marked_few n t m few h =
 module _ {n : ℕ} {t : List ℕ} {tag m : ℕ} {out : List ℕ} {at : ℕ} (fits : FieldFits n t tag m out at) where
   -- there is room for its head
   pub head_fits : at + 3 ≤ length out
-  head_fits = omega (arith, fits.room (pairs_of (Off n t m) (dec_off n t m) n) (pairs_listed (Off n t m) (dec_off n t m) n))
+  head_fits = omega (
+    arith,
+    fits.room (pairs_of (Off n t m) (dec_off n t m) n)
+        (pairs_listed (Off n t m) (dec_off n t m) n),
+  )
 
   pub contents_small : {out₁ out₂ : List ℕ} {count : ℕ} → PairsNoted n t m out₁ count out₂ → 2 * count ≤ 32768
   contents_small (l, listed, noted) = omega (arith, noted.counted, marked_few n t m fits.shape.few listed)

@@ -89,7 +89,8 @@ written_more x {w} h p =
     }
   where
     go : (i : ℕ) → Dec (i < length w) → i ≤ length w
-        → (digit_0 ≤ get_or (w ++ (digit_0 + x % 10) ∷ []) i 0) × (get_or (w ++ (digit_0 + x % 10) ∷ []) i 0 < digit_0 + 10)
+        → (digit_0 ≤ get_or (w ++ (digit_0 + x % 10) ∷ []) i 0)
+        × (get_or (w ++ (digit_0 + x % 10) ∷ []) i 0 < digit_0 + 10)
     go i (yes l) _ = rw (get_or-append w ((digit_0 + x % 10) ∷ []) 0 i l) (p.each i l)
     go i (no l) m = rw (get_or_at w (digit_0 + x % 10) [] 0 i (omega arith)) (omega arith, omega arith)
 

@@ -60,7 +60,8 @@ read_table {book} {t} {r} {t'} h = go (read_run h)
     from_run : {n : ℕ} (items : List Item) → FromFresh n t (calls_said items) r.session t' → Left items
     from_run {n} items run =
         let st : StandsFor (Listed (facts_said items)) r.session t' =
-        stands_equal (λ f i. (said_accepted n items f).0 i) (λ f i. (said_accepted n items f).1 i) (fresh_run_stands run)
+        stands_equal (λ f i. (said_accepted n items f).0 i) (λ f i. (said_accepted n items f).1 i)
+        (fresh_run_stands run)
         in
         (st.within, st.table)
 

@@ -47,7 +47,8 @@ step (suc k) stage at (tag ∷ bytes) some h =
     let field = tag ∷ bytes in
     let l = length-drop (size_of field) field in
     rw
-    (items_fuel k (suc k) (stage_behind (row_of tag) stage) (at + size_of field) (drop (size_of field) field) (omega arith)
+    (items_fuel k (suc k) (stage_behind (row_of tag) stage) (at + size_of field) (drop (size_of field) field)
+    (omega arith)
     (omega arith))
     refl
 

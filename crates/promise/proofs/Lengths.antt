@@ -79,7 +79,8 @@ module _ {n : ℕ} {t book : List ℕ} (h : BookOf n t book) where
         pairs_length (Off n t 1) (dec_off n t 1) h.yes_listed,
         pairs_length (Off n t 2) (dec_off n t 2) h.no_listed,
         simp sum_add at
-            (sum_off n (λ a b. bit (dec_off n t 1 a b) + bit (dec_off n t 2 a b) + open_count (mark n t a b)) (λ a b ha hb.
+            (sum_off n (λ a b. bit (dec_off n t 1 a b) + bit (dec_off n t 2 a b) + open_count (mark n t a b))
+            (λ a b ha hb.
             written_or_open (dec_off n t 1 a b) (dec_off n t 2 a b) (sound.small a b ha hb)
             (λ e. rw (← e) (sound.diagonal a ha)) (ℕ_discrete a b))),
       )

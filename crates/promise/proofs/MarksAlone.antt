@@ -276,7 +276,8 @@ module _ (s : Session) {t t₂ : List ℕ} (m : SameMarks s.classes t t₂) (e :
       hierarchy_unique s t₂ heads steps (owed_alike (hierarchy_alike heads steps) h) h₂
 
   pub hierarchy_for_c_marks_alone :
-      (heads steps : List ℕ) {o o₂ : CrossedCount × (List ℕ × List ℕ)} → Owed (writes_for_c (hierarchy s t heads steps)) o
+      (heads steps : List ℕ) {o o₂ : CrossedCount × (List ℕ × List ℕ)}
+      → Owed (writes_for_c (hierarchy s t heads steps)) o
       → Owed (writes_for_c (hierarchy s t₂ heads steps)) o₂ → o ≡ o₂
   hierarchy_for_c_marks_alone heads steps h h₂ =
       hierarchy_for_c_unique s t₂ heads steps (owed_alike (crossing_alike (hierarchy_alike heads steps)) h) h₂

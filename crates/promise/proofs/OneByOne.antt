@@ -118,7 +118,8 @@ same_first : {c d : Intake} {calls later : List Intake} → c ∷ calls ≡ d �
 same_first {c} e = ap (λ (l : List Intake). first_or c l) e
 
 tells_same :
-    (l : List Fact) {s s' : Session} {t t' : List ℕ} {made : List Made} → Run s t made s' t' → calls_of made ≡ tells_of l
+    (l : List Fact) {s s' : Session} {t t' : List ℕ} {made : List Made} → Run s t made s' t'
+    → calls_of made ≡ tells_of l
     → s' ≡ s
 tells_same l Run.stop e = refl
 tells_same [] (Run.call h number run) e = absurd (omega (arith, ap length e))

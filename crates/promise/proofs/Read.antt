@@ -233,7 +233,8 @@ one_before :
     → items_before place (item ∷ items) ≡ item ∷ items_before place items
 one_before item place items h = go (dec_lt (place_of item) place)
   where
-    go : (d : Dec (place_of item < place)) → if_before d item (items_before place items) ≡ item ∷ items_before place items
+    go : (d : Dec (place_of item < place))
+        → if_before d item (items_before place items) ≡ item ∷ items_before place items
     go (yes z) = refl
     go (no z) = absurd (z h)
 

@@ -301,7 +301,8 @@ row Mark.write-open =
     gives (Count 18, 1 ∷ 0 ∷ 1 ∷ 3 ∷ 2 ∷ 0 ∷ 6 ∷ 0 ∷ 1 ∷ 0 ∷ 2 ∷ 1 ∷ 2 ∷ 3 ∷ 0 ∷ 2 ∷ 2 ∷ 0 ∷ 9 ∷ [])
 -- 01's printed example, whole and without its last six bytes
 row Mark.example-read = book example gives (replied 0 0 (three 1), p8)
-row Mark.example-cut-read = book_of_three (2 ∷ 0 ∷ 6 ∷ 0 ∷ 1 ∷ 1 ∷ 2 ∷ 2 ∷ 1 ∷ []) gives (replied 0 0 (three 0), printed)
+row Mark.example-cut-read = book_of_three (2 ∷ 0 ∷ 6 ∷ 0 ∷ 1 ∷ 1 ∷ 2 ∷ 2 ∷ 1 ∷ [])
+    gives (replied 0 0 (three 0), printed)
 row Mark.example-cut-open = Input.open_pairs (three 0) printed gives Count 2
 row Mark.example-cut-asks = Input.next (three 0) printed gives Ask 1 0
 -- books refused at their first field
@@ -360,7 +361,8 @@ row Mark.clip_of_none = Input.clip (three 0) after_yes [] gives (replied 0 0 (th
 row Mark.clip_of_all = Input.clip (three 0) after_yes (true ∷ true ∷ true ∷ []) gives (replied 0 0 (three 0), after_yes)
 -- one no contradicts: the first, and a later one, when those before it are not written
 row Mark.clip-first-contradicts = Input.clip (three 0) after_yes first_one gives (replied 6 0 (three 0), after_yes)
-row Mark.clip-later-contradicts = Input.clip (three 0) one_under_two first_two gives (replied 6 0 (three 0), one_under_two)
+row Mark.clip-later-contradicts = Input.clip (three 0) one_under_two first_two
+    gives (replied 6 0 (three 0), one_under_two)
 -- a class of n or more, and the order of refusals
 row Mark.clip_beyond =
     Input.clip (three 0) after_yes (true ∷ true ∷ false ∷ true ∷ []) gives (replied 5 0 (three 0), after_yes)
@@ -376,8 +378,10 @@ row Mark.bytes-too-few = Input.clip_bytes (three 0) after_yes (1 ∷ 1 ∷ []) g
 row Mark.bytes-most-flags = Input.clip_bytes (three 0) after_yes (1 ∷ 1 ∷ times 126 0) gives (replied 0 0 (three 0), p4)
 row Mark.bytes-too-many =
     Input.clip_bytes (three 0) after_yes (1 ∷ 1 ∷ times 127 0) gives (replied 5 0 (three 0), after_yes)
-row Mark.bytes-beyond = Input.clip_bytes (three 0) after_yes (1 ∷ 1 ∷ 0 ∷ 1 ∷ []) gives (replied 5 0 (three 0), after_yes)
-row Mark.bytes-contradict = Input.clip_bytes (three 0) after_yes (1 ∷ 0 ∷ 0 ∷ []) gives (replied 6 0 (three 0), after_yes)
+row Mark.bytes-beyond = Input.clip_bytes (three 0) after_yes (1 ∷ 1 ∷ 0 ∷ 1 ∷ [])
+    gives (replied 5 0 (three 0), after_yes)
+row Mark.bytes-contradict = Input.clip_bytes (three 0) after_yes (1 ∷ 0 ∷ 0 ∷ [])
+    gives (replied 6 0 (three 0), after_yes)
 row Mark.bytes_overcounted_first = Input.clip_bytes (three 1) p2 (1 ∷ []) gives (replied 4 0 (three 1), p2)
 -- what C sees
 row Mark.C-asks = Input.next_for_c (three 0) p7 gives asked_for_c 0 0 true 1 0
@@ -386,7 +390,8 @@ row Mark.C-next-refused = Input.next_for_c (three 1) p2 gives asked_for_c 4 0 fa
 row Mark.C-open = Input.openPairsForC (three 0) p7 gives counted_for_c 0 0 2
 row Mark.C-open-refused = Input.openPairsForC (three 0) unsound gives counted_for_c 3 0 0
 row Mark.C-hierarchy =
-    Input.hierarchyForC (three 0) p8 (nines 4) (nines 3) gives (counted_for_c 0 0 1, (0 ∷ 1 ∷ 1 ∷ 9 ∷ [], 0 ∷ 1 ∷ 9 ∷ []))
+    Input.hierarchyForC (three 0) p8 (nines 4) (nines 3)
+    gives (counted_for_c 0 0 1, (0 ∷ 1 ∷ 1 ∷ 9 ∷ [], 0 ∷ 1 ∷ 9 ∷ []))
 row Mark.C-hierarchy-refused =
     Input.hierarchyForC four p11 (nines 4) (nines 7) gives (counted_for_c 8 0 0, (nines 4, nines 7))
 row Mark.C-ladder = Input.ladderForC four p11 0 3 (nines 4) gives (counted_for_c 0 0 3, 0 ∷ 1 ∷ 3 ∷ 9 ∷ [])

@@ -224,7 +224,8 @@ row_right tag (RowIs.facts t) stage len room (inl h) = absurd (omega (arith, h.1
 row_right tag (RowIs.facts t) stage len room (inr (p, inl h)) = absurd (omega (arith, h.1))
 row_right tag (RowIs.facts t) stage len room (inr (p, inr (a, inl h))) = absurd (omega (arith, h.1))
 row_right tag (RowIs.facts {width} t) stage len room (inr (p, inr (a, inr (c, _)))) = (
-  Right.facts (begun_where_allowed stage p) t (stable (ℕ_discrete (len % width) 0) (λ ne. a (ne_eqb (len % width) 0 ne))),
+  Right.facts (begun_where_allowed stage p) t
+      (stable (ℕ_discrete (len % width) 0) (λ ne. a (ne_eqb (len % width) 0 ne))),
   omega arith,
 )
 

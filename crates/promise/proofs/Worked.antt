@@ -20,12 +20,14 @@ use Rattle.promise.proofs.Standing.{standing_there}
 use Rattle.promise.proofs.Calls.{owed_there, changes_there, crossing_there}
 use Rattle.promise.proofs.Fresh.{fresh_there}
 use Rattle.promise.proofs.Tell.{tell_there}
-use Rattle.promise.proofs.Clips.{dec_beyond, dec_clip_contradicts, dec_clipped_no, clip_there, dec_flags_fit, bytes_there}
+use Rattle.promise.proofs.Clips.{dec_beyond, dec_clip_contradicts, dec_clipped_no, clip_there, dec_flags_fit}
+use Rattle.promise.proofs.Clips.{bytes_there}
 use Rattle.promise.proofs.Next.{first_of, next_there}
 use Rattle.promise.proofs.Counts.{dec_too_short, writes_there, open_pairs_there}
 use Rattle.promise.proofs.Crossing.{next_for_c_there, open_pairs_for_c_there, writes_for_c_there}
 use Rattle.promise.proofs.Crossing.{hierarchy_for_c_there, ladder_for_c_there, write_for_c_there}
-use Rattle.promise.proofs.Hierarchy.{dec_under, dec_equal, dec_head_of, dec_head, dec_third, dec_direct, head_there, list_there}
+use Rattle.promise.proofs.Hierarchy.{dec_under, dec_equal, dec_head_of, dec_head, dec_third, dec_direct, head_there}
+use Rattle.promise.proofs.Hierarchy.{list_there}
 use Rattle.promise.proofs.Hierarchy.{heads_there, hierarchy_there}
 use Rattle.promise.proofs.Ladder.{number_there, dec_above, to_go, between, direct_there, rung_there, rungs_there}
 use Rattle.promise.proofs.Ladder.{ladder_there, ladder_made, ladder_written_there}
@@ -75,15 +77,15 @@ there (Input.writeForC s t out) = write_for_c_there s t out
 
 -- it is the outcome that the row has
 computed : (m : Mark) → (there (row m).input).0 ≡ (row m).outcome
-unfolding mark opens_to dec_lt dec_le ℕ_discrete both either implies negated as_well all_below some_below all_pairs least
-    least_from stage is dec_sound dec_transitive dec_pruned dec_yes_after_yes dec_no_after_yes dec_no_after_no row_to rows_to
-    standing_there owed_there changes_there crossing_there fresh_there tell_there dec_set dec_flagged dec_beyond
-    dec_clip_contradicts dec_clipped_no clip_there dec_flags_fit bytes_there first_of next_there next_for_c_there
-    open_pairs_there open_pairs_for_c_there dec_under dec_equal dec_head_of dec_head dec_third dec_direct head_there list_there
-    heads_there dec_too_short hierarchy_there number_there dec_above to_go between direct_there rung_there rungs_there
-    ladder_there ladder_made writes_there ladder_written_there writes_for_c_there row_of facts_from items_from
-    row_there field_there goes_there verdict_there made_there follows_there read_there dec_off book_there
-    write_there hierarchy_for_c_there ladder_for_c_there write_for_c_there
+unfolding mark opens_to dec_lt dec_le ℕ_discrete both either implies negated as_well all_below some_below all_pairs
+    least least_from stage is dec_sound dec_transitive dec_pruned dec_yes_after_yes dec_no_after_yes dec_no_after_no
+    row_to rows_to standing_there owed_there changes_there crossing_there fresh_there tell_there dec_set dec_flagged
+    dec_beyond dec_clip_contradicts dec_clipped_no clip_there dec_flags_fit bytes_there first_of next_there
+    next_for_c_there open_pairs_there open_pairs_for_c_there dec_under dec_equal dec_head_of dec_head dec_third
+    dec_direct head_there list_there heads_there dec_too_short hierarchy_there number_there dec_above to_go between
+    direct_there rung_there rungs_there ladder_there ladder_made writes_there ladder_written_there writes_for_c_there
+    row_of facts_from items_from row_there field_there goes_there verdict_there made_there follows_there read_there
+    dec_off book_there write_there hierarchy_for_c_there ladder_for_c_there write_for_c_there
 computed Mark.P1-fresh = refl
 computed Mark.P1-done = refl
 computed Mark.P2-fresh = refl
@@ -229,6 +231,6 @@ met m = subst (Owes (row m).input) (computed m) (there (row m).input).1
 -- "the number of heads strictly above the rung and under the goal": of P8's table from 0 on to 1 it is 1, though 2 is
 -- equal to 1; of P11's from 0 on to 1, though 2 and 3 are above 0 too, and from 1 on to 3, though 0 and 2 are under 3
 pub above_worked : Number (Above 3 p8 1 0) 3 1 × Number (Above 4 p11 1 0) 4 1 × Number (Above 4 p11 3 1) 4 1
-unfolding mark ℕ_discrete dec_lt dec_le both negated implies as_well all_below dec_under dec_equal dec_head_of dec_head dec_above
-    number_there to_go
+unfolding mark ℕ_discrete dec_lt dec_le both negated implies as_well all_below dec_under dec_equal dec_head_of dec_head
+    dec_above number_there to_go
 above_worked = ((to_go 3 p8 1 0).1, (to_go 4 p11 1 0).1, (to_go 4 p11 3 1).1)

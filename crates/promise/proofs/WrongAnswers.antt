@@ -338,7 +338,8 @@ hierarchy_for_ccontract =
 pub hierarchy_for_c_rejects :
     Rejected hierarchy_for_ccontract (λ o. o.0) (λ i o. (o.1.0 ≡ i.2) ⊎ (o.1.1 ≡ i.3))
 hierarchy_for_c_rejects =
-    rejected hierarchy_for_ccontract (three 0, p8, nines 4, nines 3) (four, p11, nines 4, nines 7) (met Mark.C-hierarchy)
+    rejected hierarchy_for_ccontract (three 0, p8, nines 4, nines 3) (four, p11, nines 4, nines 7)
+    (met Mark.C-hierarchy)
     refl (⊎_elim (λ e. omega (arith, ap (byte 0) e)) (λ e. omega (arith, ap (byte 0) e)))
     (met Mark.C-hierarchy-refused)
     (λ e. omega (arith, ap number_for_c e))

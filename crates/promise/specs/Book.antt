@@ -1,6 +1,7 @@
 -- Fact books: what the bytes of one say, reading and writing. Document 01, "The fact book".
 -- Assumes nothing.
-use Rattle.std.specs.Prelude.{◌≡◌, ◌≢◌, ◌⊎◌, Bool, true, false, List, [], ◌∷◌, ◌++◌, ℕ, zero, suc, ◌+◌, ◌*◌, ◌-◌, ◌/◌, ◌%◌, ◌<◌, eqb, length, get_or, drop}
+use Rattle.std.specs.Prelude.{◌≡◌, ◌≢◌, ◌⊎◌, Bool, true, false, List, [], ◌∷◌, ◌++◌, ℕ, zero, suc, ◌+◌, ◌*◌, ◌-◌, ◌/◌}
+use Rattle.std.specs.Prelude.{◌%◌, ◌<◌, eqb, length, get_or, drop}
 use Rattle.promise.specs.Refusals.{Condition, First, cut_short, unknown_tag, misplaced_tag, bad_length, bad_verdict}
 use Rattle.promise.specs.Refusals.{standing, no_room}
 use Rattle.order.specs.Facts.{Fact, fact_on}

@@ -167,7 +167,8 @@ read_empty (x ∷ book) t e = absurd (omega arith)
 
 module _ {book t₀ : List ℕ} {at : ℕ} {stage : Stage} {s : Session} {t : List ℕ} (h : FieldsLeft book t₀ at stage s t)
   where
-    pub field_ready : {size : ℕ} → at < length book → size ≡ length_of (drop at book) → FieldReady stage book at size s t
+    pub field_ready : {size : ℕ} → at < length book → size ≡ length_of (drop at book)
+        → FieldReady stage book at size s t
     field_ready l e = record { some = l; gives = e; stands = h.stands }
 
     module _
@@ -175,7 +176,8 @@ module _ {book t₀ : List ℕ} {at : ℕ} {stage : Stage} {s : Session} {t : Li
         (part : PartFollowed (Item.head at stage (drop at book) ∷ said_at book at) s t r t₁)
       where
         abbrev items_behind : List Item
-        items_behind = items_at book (stage_behind (row_of (get_or (drop at book) 0 0)) stage) (at + size_of (drop at book))
+        items_behind = items_at book (stage_behind (row_of (get_or (drop at book) 0 0)) stage)
+            (at + size_of (drop at book))
 
         whole :
             (q : Reply) (t' : List ℕ)
@@ -188,7 +190,8 @@ module _ {book t₀ : List ℕ} {at : ℕ} {stage : Stage} {s : Session} {t : Li
         book_refused ne =
             record {
               followed =
-                  whole r t₁ (follows_stop items_behind r t₁ ne (Item.head at stage (drop at book) ∷ said_at book at) s t
+                  whole r t₁
+                  (follows_stop items_behind r t₁ ne (Item.head at stage (drop at book) ∷ said_at book at) s t
                   part.follows);
             }
 

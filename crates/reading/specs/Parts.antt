@@ -1,6 +1,7 @@
 -- The parts of a book that are followed one by one, and what following one leaves.
 -- Assumes nothing.
-use Rattle.std.specs.Prelude.{◌≡◌, ◌≢◌, Bool, true, false, not, List, [], ℕ, ◌+◌, ◌/◌, ◌%◌, ◌≤◌, ◌<◌, eqb, length, get_or, drop}
+use Rattle.std.specs.Prelude.{◌≡◌, ◌≢◌, Bool, true, false, not, List, [], ℕ, ◌+◌, ◌/◌, ◌%◌, ◌≤◌, ◌<◌, eqb, length}
+use Rattle.std.specs.Prelude.{get_or, drop}
 use Rattle.promise.specs.Refusals.{First, standing}
 use Rattle.promise.specs.declared.Stage.{Stage}
 use Rattle.promise.specs.declared.Stage.TheVariants.{Start, Begun}
@@ -9,7 +10,8 @@ use Rattle.promise.specs.declared.Reply.{Reply}
 use Rattle.promise.specs.Calls.{reply}
 use Rattle.promise.specs.Tell.{Kind}
 use Rattle.session.specs.Facts.{kind_of}
-use Rattle.promise.specs.Book.{count_row, facts_row, Lookup, row_of, length_of, field_refusals, Item, facts_from, field_says}
+use Rattle.promise.specs.Book.{count_row, facts_row, Lookup, row_of, length_of, field_refusals, Item, facts_from}
+use Rattle.promise.specs.Book.{field_says}
 use Rattle.promise.specs.Book.{Follows}
 use Rattle.reading.specs.declared.tags.Row.{Row}
 

@@ -73,7 +73,8 @@ module _ {s : Session} {t t' : List ℕ} {r : Reply} (flags : List Bool) (first 
   answer_made e e₂ h = rw (e, ← e₂) h
 
   pub clip_made :
-      (which : ℕ) (holds : Bool) {played : List Bool} → which ≢ 0 → which ≢ 1 → SameFlags (clip_flags flags first) played
+      (which : ℕ) (holds : Bool) {played : List Bool} → which ≢ 0 → which ≢ 1
+      → SameFlags (clip_flags flags first) played
       → Owed (clip s t played) (r, t') → Owed (taking (call_of which first second holds flags) s t) (r, t')
   clip_made zero holds z o same h = absurd (z refl)
   clip_made (suc zero) holds z o same h = absurd (o refl)

@@ -1,6 +1,7 @@
 -- A history of calls in a list of numbers and a list of flags, and what replaying it from fresh comes to.
 -- Assumes nothing.
-use Rattle.std.specs.Prelude.{◌≡◌, ◌≢◌, Bool, List, [], ◌∷◌, ◌++◌, ℕ, zero, suc, ◌+◌, ◌*◌, ◌/◌, get_or, length, take, drop}
+use Rattle.std.specs.Prelude.{◌≡◌, ◌≢◌, Bool, List, [], ◌∷◌, ◌++◌, ℕ, zero, suc, ◌+◌, ◌*◌, ◌/◌, get_or, length, take}
+use Rattle.std.specs.Prelude.{drop}
 use Rattle.order.specs.Facts.{fact_on}
 use Rattle.promise.specs.declared.Session.{Session}
 use Rattle.promise.specs.declared.Reply.{Reply}

@@ -48,7 +48,11 @@ module _ {n : ℕ} {t : List ℕ} where
         transitive = λ a b c ha hb hc p q. (((stands a b ha hb).yes_pair p).at c hc).0 q;
         pruned = λ a b c d ha hb hc hd p q r.
             which (small_at a b ha hb)
-            (λ e. omega (arith, (((stands c a hc ha).yes_pair q).at d hd).1 p, (((stands a b ha hb).yes_pair e).at d hd).0 r))
+            (λ e. omega (
+              arith,
+              (((stands c a hc ha).yes_pair q).at d hd).1 p,
+              (((stands a b ha hb).yes_pair e).at d hd).0 r,
+            ))
             (λ e. ((stands a b ha hb).open_pair e).at d hd r ((((stands c a hc ha).yes_pair q).at d hd).1 p));
       }
     where

@@ -28,13 +28,15 @@ returns-then-number-ne0 c =
 
 pub returns-then-played-session : goal.returns-then-played-session
 returns-then-played-session c =
-    rw c.refused-then-played-session.ensures (bytes_misfit _ _ _ (stands (goal.at.returns-then-played-session c).Else-number-ne0)
+    rw c.refused-then-played-session.ensures
+    (bytes_misfit _ _ _ (stands (goal.at.returns-then-played-session c).Else-number-ne0)
     (λ fit. omega (arith, c.if-played-session.true, fit.enough)))
 
 pub returns-then-played-gt-MOST_CLASSES : goal.returns-then-played-gt-MOST_CLASSES
 returns-then-played-gt-MOST_CLASSES c =
     rw c.refused-then-played-gt-MOST_CLASSES.ensures
-    (bytes_misfit _ _ _ (stands (goal.at.returns-then-played-gt-MOST_CLASSES c).Else-number-ne0) (λ fit. omega (arith, c.if-played-gt-MOST_CLASSES.true, fit.few)))
+    (bytes_misfit _ _ _ (stands (goal.at.returns-then-played-gt-MOST_CLASSES c).Else-number-ne0)
+    (λ fit. omega (arith, c.if-played-gt-MOST_CLASSES.true, fit.few)))
 
 pub take_clip-requires : goal.take_clip-requires
 take_clip-requires c =

@@ -25,7 +25,8 @@ none_contradicts-agrees-requires c = shaped (stands (goal.at.none_contradicts-ag
 pub returns-then-not-agrees : goal.returns-then-not-agrees
 returns-then-not-agrees c =
     rw c.refused-then-not-agrees.ensures
-    (clip_contradicted (stands (goal.at.returns-then-not-agrees c).Start) (granted c.if-not-below.false c.none_beyond-below.ensures)
+    (clip_contradicted (stands (goal.at.returns-then-not-agrees c).Start)
+    (granted c.if-not-below.false c.none_beyond-below.ensures)
     (stable (dec_clip_contradicts _ _ _) (refuted c.if-not-agrees.true c.none_contradicts-agrees.ensures)))
 
 pub non_members-others-requires : goal.non_members-others-requires

@@ -29,16 +29,28 @@ pub loop-y-init : goal.loop-y-init
 loop-y-init c = row_start
 
 pub overflow_add-i : goal.overflow_add-i
-overflow_add-i c = omega (arith, (here (goal.at.overflow_add-i c).In-loop-y).below, square _ (shape (goal.at.overflow_add-i c).In-loop-y).few)
+overflow_add-i c = omega (
+  arith,
+  (here (goal.at.overflow_add-i c).In-loop-y).below,
+  square _ (shape (goal.at.overflow_add-i c).In-loop-y).few,
+)
 
 pub bounds-table-i : goal.bounds-table-i
-bounds-table-i c = omega (arith, (here (goal.at.bounds-table-i c).In-loop-y).below, (shape (goal.at.bounds-table-i c).In-loop-y).room)
+bounds-table-i c = omega (
+  arith,
+  (here (goal.at.bounds-table-i c).In-loop-y).below,
+  (shape (goal.at.bounds-table-i c).In-loop-y).room,
+)
 
 pub bounds-ys-y : goal.bounds-ys-y
 bounds-ys-y c = omega (arith, (shape (goal.at.bounds-ys-y c).In-loop-y).few)
 
 pub bounds-table-i-in-loop-y : goal.bounds-table-i-in-loop-y
-bounds-table-i-in-loop-y c = omega (arith, (here (goal.at.bounds-table-i-in-loop-y c).In-loop-y).below, (shape (goal.at.bounds-table-i-in-loop-y c).In-loop-y).room)
+bounds-table-i-in-loop-y c = omega (
+  arith,
+  (here (goal.at.bounds-table-i-in-loop-y c).In-loop-y).below,
+  (shape (goal.at.bounds-table-i-in-loop-y c).In-loop-y).room,
+)
 
 pub loop-y-preserved : goal.loop-y-preserved
 loop-y-preserved c =

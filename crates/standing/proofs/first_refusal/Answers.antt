@@ -30,7 +30,8 @@ pub overflow_mul-pairs : goal.overflow_mul-pairs
 overflow_mul-pairs c = omega (arith, square _ c.if-n-gt-MOST_CLASSES.false)
 
 pub returns-then-table-pairs : goal.returns-then-table-pairs
-returns-then-table-pairs c = inr (range (goal.at.returns-then-table-pairs c).Else-n-gt-MOST_CLASSES, inl (c.if-table-pairs.true, refl))
+returns-then-table-pairs c = inr
+    (range (goal.at.returns-then-table-pairs c).Else-n-gt-MOST_CLASSES, inl (c.if-table-pairs.true, refl))
 
 pub returns-then-not-sound : goal.returns-then-not-sound
 returns-then-not-sound c =
@@ -49,14 +50,26 @@ pub returns-then-most-tests : goal.returns-then-most-tests
 returns-then-most-tests c =
     inr (
       range (goal.at.returns-then-most-tests c).Else-n-gt-MOST_CLASSES,
-      inr (λ l. omega arith, inr (sound (goal.at.returns-then-most-tests c).Else-not-sound, inl (record { exceeds = omega arith }, refl))),
+      inr (
+        λ l. omega arith,
+        inr (
+          sound (goal.at.returns-then-most-tests c).Else-not-sound,
+          inl (record { exceeds = omega arith }, refl),
+        ),
+      ),
     )
 
 pub returns-then-most-tests-2 : goal.returns-then-most-tests-2
 returns-then-most-tests-2 c =
     inr (
       range (goal.at.returns-then-most-tests-2 c).Else-n-gt-MOST_CLASSES,
-      inr (λ l. omega arith, inr (sound (goal.at.returns-then-most-tests-2 c).Else-not-sound, inl (record { exceeds = omega arith }, refl))),
+      inr (
+        λ l. omega arith,
+        inr (
+          sound (goal.at.returns-then-most-tests-2 c).Else-not-sound,
+          inl (record { exceeds = omega arith }, refl),
+        ),
+      ),
     )
 
 pub returns : goal.returns

@@ -42,7 +42,8 @@ loop-b-preserved c = (
         elim c.if-a-b.branch [
           | then-a-b+then-marked w ↦
               rw (w.out-is, w.count-is)
-              (hit s (w.if-a-b.true, w.is_marked-marked.ensures.0 w.if-marked.true) w.put_pair.auto.out w.put_pair.ensures)
+              (hit s (w.if-a-b.true, w.is_marked-marked.ensures.0 w.if-marked.true) w.put_pair.auto.out
+              w.put_pair.ensures)
           | then-a-b+else-marked w ↦
               rw (w.out-is, w.count-is)
               (miss s (λ p. false≢true (sym w.if-marked.false ∙ w.is_marked-marked.ensures.1 p.1)))

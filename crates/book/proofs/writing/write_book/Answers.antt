@@ -49,7 +49,8 @@ returns-then-out-yes c =
     (rw (untouched c.args.out.now _ _ c.list_marked-yes.auto.out c.list_marked-no.auto.out) at c.if-out-yes.true))
 
 pub write_fields-size-requires : goal.write_fields-size-requires
-write_fields-size-requires c = rw (untouched c.args.out.now _ _ c.list_marked-yes.auto.out c.list_marked-no.auto.out) (fits (goal.at.write_fields-size-requires c).Else-out-yes)
+write_fields-size-requires c = rw (untouched c.args.out.now _ _ c.list_marked-yes.auto.out c.list_marked-no.auto.out)
+    (fits (goal.at.write_fields-size-requires c).Else-out-yes)
 
 pub returns : goal.returns
 returns c =

@@ -1,7 +1,6 @@
 -- `dawnhangra::c::crossed_count` meets its contract.
 -- Assumes nothing.
 use mathlib.Core.Path.{refl}
-use borrow.Author.Rules.{rules}
 use Rattle.dawnhangra.proofs.c.crossed_count.Goals as goal
 
 pub returns-in-Count : goal.returns-in-Count

@@ -1,7 +1,6 @@
 -- `dawnhangra::c::crossed_question` meets its contract.
 -- Assumes nothing.
 use mathlib.Core.Path.{refl}
-use borrow.Author.Rules.{rules}
 use Rattle.dawnhangra.proofs.c.crossed_question.Goals as goal
 
 pub returns-in-Ask : goal.returns-in-Ask

@@ -3,7 +3,6 @@
 use mathlib.Core.Path.{refl}
 use Rattle.promise.specs.Hierarchy.{hierarchy}
 use Rattle.promise.proofs.Crossing.{writes_crosses}
-use borrow.Author.Rules.{rules}
 use Rattle.dawnhangra.proofs.c.dawnhangra_hierarchy.Goals as goal
 
 pub returns : goal.returns

@@ -3,7 +3,6 @@
 use mathlib.Core.Path.{refl}
 use Rattle.promise.specs.Hierarchy.{ladder}
 use Rattle.promise.proofs.Crossing.{writes_crosses}
-use borrow.Author.Rules.{rules}
 use Rattle.dawnhangra.proofs.c.dawnhangra_ladder.Goals as goal
 
 pub returns : goal.returns

@@ -3,7 +3,6 @@
 use mathlib.Core.Path.{refl}
 use Rattle.promise.specs.Book.{write}
 use Rattle.promise.proofs.Crossing.{writes_crosses}
-use borrow.Author.Rules.{rules}
 use Rattle.dawnhangra.proofs.c.dawnhangra_write.Goals as goal
 
 pub returns : goal.returns

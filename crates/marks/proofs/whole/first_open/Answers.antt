@@ -42,8 +42,11 @@ loop-b-init c = (omega arith, c.rows.invariant.1, c.rows.invariant.2)
 
 pub loop-b-preserved : goal.loop-b-preserved
 loop-b-preserved c =
-    let byte = reads c.args.table.now c.index-i.ensures in
-    (omega arith, c.loop-b.invariant.1, next-column _ _ _ _ c.loop-b.invariant.2 (λ e. c.if-table-i-eq-OPEN.false (sym byte ∙ e)))
+    let byte = reads c.args.table.now c.index-i.ensures in (
+      omega arith,
+      c.loop-b.invariant.1,
+      next-column _ _ _ _ c.loop-b.invariant.2 (λ e. c.if-table-i-eq-OPEN.false (sym byte ∙ e)),
+    )
 
 pub rows-preserved : goal.rows-preserved
 rows-preserved c =

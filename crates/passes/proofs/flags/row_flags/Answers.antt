@@ -25,7 +25,8 @@ pub loop-y-init : goal.loop-y-init
 loop-y-init c = gather_start refl
 
 pub overflow_add-flags : goal.overflow_add-flags
-overflow_add-flags c = let p = c.requires in omega (arith, (here (goal.at.overflow_add-flags c).In-loop-y).below, square _ p.0.few)
+overflow_add-flags c = let p = c.requires in omega
+    (arith, (here (goal.at.overflow_add-flags c).In-loop-y).below, square _ p.0.few)
 
 pub bounds-table-start : goal.bounds-table-start
 bounds-table-start c =

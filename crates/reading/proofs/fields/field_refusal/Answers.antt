@@ -56,7 +56,11 @@ returns-then-room-size c =
     field_known _ c.requires c.if-left-lt3.false 10 (known (goal.at.returns-then-room-size c).Else-not-row)
     (inr (
       λ e. true≢false (sym (placed (goal.at.returns-then-room-size c).Else-not-placed) ∙ c.stands-placed.ensures ∙ e),
-      inr (λ e. true≢false (sym (allowed (goal.at.returns-then-room-size c).Else-not-allowed) ∙ c.allows-allowed.ensures ∙ e), inl (c.if-room-size.true, refl)),
+      inr (
+        λ e. true≢false
+            (sym (allowed (goal.at.returns-then-room-size c).Else-not-allowed) ∙ c.allows-allowed.ensures ∙ e),
+        inl (c.if-room-size.true, refl),
+      ),
     ))
 
 pub returns : goal.returns

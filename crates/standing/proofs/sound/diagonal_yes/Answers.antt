@@ -11,7 +11,8 @@ pub loop-a-init : goal.loop-a-init
 loop-a-init c = none
 
 pub returns-then-table-i-ne-YES : goal.returns-then-table-i-ne-YES
-returns-then-table-i-ne-YES c = never (λ h. c.if-table-i-ne-YES.true (sym (reads _ c.index-i.ensures) ∙ h.at _ (omega arith)))
+returns-then-table-i-ne-YES c = never
+    (λ h. c.if-table-i-ne-YES.true (sym (reads _ c.index-i.ensures) ∙ h.at _ (omega arith)))
 
 pub loop-a-preserved : goal.loop-a-preserved
 loop-a-preserved c =

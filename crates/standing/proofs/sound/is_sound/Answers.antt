@@ -11,7 +11,8 @@ pub returns-then-not-small : goal.returns-then-not-small
 returns-then-not-small c = never (λ h. refuted c.if-not-small.true c.marks_small-small.ensures (small_of h))
 
 pub returns-then-not-diagonal : goal.returns-then-not-diagonal
-returns-then-not-diagonal c = never (λ h. refuted c.if-not-diagonal.true c.diagonal_yes-diagonal.ensures (record { at = h.diagonal }))
+returns-then-not-diagonal c = never
+    (λ h. refuted c.if-not-diagonal.true c.diagonal_yes-diagonal.ensures (record { at = h.diagonal }))
 
 pub loop-a-init : goal.loop-a-init
 loop-a-init c = none

@@ -7,7 +7,8 @@ use Rattle.buffers.proofs.Noting.{SoFar, Along}
 use Rattle.steps.proofs.direct.list_steps.Given as goal
 
 abbrev pub invariant-loop-b : goal.invariant-loop-b
-invariant-loop-b l = (l.b ≤ l.n) × Along (Direct l.n l.table) (dec_direct l.n l.table) l.n l.a l.initial.steps l.initial.count l.steps l.count l.b
+invariant-loop-b l = (l.b ≤ l.n)
+    × Along (Direct l.n l.table) (dec_direct l.n l.table) l.n l.a l.initial.steps l.initial.count l.steps l.count l.b
 
 abbrev pub decreases-loop-b : goal.decreases-loop-b
 decreases-loop-b l = l.n - l.b

@@ -4,7 +4,8 @@ use native.Mathlib.Omega.{arith}
 use Rattle.marks.proofs.Answers.{refuted}
 use Rattle.steps.proofs.Between.{thirds_none, thirds_add, thirds_pass, thirds_known, thirds_all}
 use Rattle.steps.proofs.thirds.find_thirds.Goals as goal
-use Rattle.steps.proofs.thirds.find_thirds.Goals.{then-above+then-not-thirds-c, then-above+else-not-thirds-c, else-above}
+use Rattle.steps.proofs.thirds.find_thirds.Goals.{then-above+then-not-thirds-c, then-above+else-not-thirds-c}
+use Rattle.steps.proofs.thirds.find_thirds.Goals.{else-above}
 
 pub loop-c-init : goal.loop-c-init
 loop-c-init c = thirds_none c.requires.2
