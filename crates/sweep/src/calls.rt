@@ -5,92 +5,100 @@ use crate::draw::{Fact, draw, draw_fact, draw_lent, draw_rooms, draw_rungs, draw
 use crate::flags::draw_clip;
 use crate::kept::{Kept, Sizes, within};
 use crate::lent;
+use crate::show::Out;
 use crate::trouble::{no_trouble, put_back, settle};
+use std::io;
 
 // fresh, tell or answer, by its letter. fresh takes no heed of the fact.
-fn change(letter: u8, mut kept: Kept, fact: Fact) -> Kept {
+fn change(out: &mut Out, letter: u8, mut kept: Kept, fact: Fact) -> io::Result<Kept> {
     let given = kept.given;
     let session = given.session;
     let mut table = kept.table;
-    let reply = lent::change(letter, session, given.lent, fact, &mut table);
+    let reply = lent::change(out, letter, session, given.lent, fact, &mut table)?;
     kept.table = table;
     let after = reply.session;
-    settle(kept, reply.number, after)
+    Ok(settle(kept, reply.number, after))
 }
 
-pub fn fresh(kept: Kept) -> Kept {
+pub fn fresh(out: &mut Out, kept: Kept) -> io::Result<Kept> {
     let none = Fact {
         lower: 0,
         upper: 0,
         holds: false,
     };
-    change(b'F', kept, none)
+    change(out, b'F', kept, none)
 }
 
 // With a fact that is drawn.
-pub fn tell_or_answer(letter: u8, sizes: Sizes, mut kept: Kept) -> Kept
+pub fn tell_or_answer(out: &mut Out, letter: u8, sizes: Sizes, mut kept: Kept) -> io::Result<Kept>
     requires { Few sizes.n }
 {
     let fact = draw_fact(&mut kept.state, sizes.n);
-    change(letter, kept, fact)
+    change(out, letter, kept, fact)
 }
 
 // That one class is under another.
-pub fn tell_under(lower: usize, upper: usize, kept: Kept) -> Kept {
+pub fn tell_under(out: &mut Out, lower: usize, upper: usize, kept: Kept) -> io::Result<Kept> {
     let fact = Fact {
         lower: lower,
         upper: upper,
         holds: true,
     };
-    change(b'T', kept, fact)
+    change(out, b'T', kept, fact)
 }
 
 // With flags that are drawn.
-pub fn clip(sizes: Sizes, mut kept: Kept) -> Kept
+pub fn clip(out: &mut Out, sizes: Sizes, mut kept: Kept) -> io::Result<Kept>
     requires { Few sizes.n }
 {
     let given = kept.given;
     let session = given.session;
     let mut table = kept.table;
     let drawn = draw_clip(&mut kept.state, &table, sizes.n);
-    let reply = lent::clip(session, given.lent, drawn, &mut table);
+    let reply = lent::clip(out, session, given.lent, drawn, &mut table)?;
     kept.table = table;
     let after = reply.session;
-    settle(kept, reply.number, after)
+    Ok(settle(kept, reply.number, after))
 }
 
 // Without trouble, on the pair that next asks.
-fn answer(sizes: Sizes, mut kept: Kept, lower: usize, upper: usize) -> Kept {
+fn answer(
+    out: &mut Out,
+    sizes: Sizes,
+    mut kept: Kept,
+    lower: usize,
+    upper: usize,
+) -> io::Result<Kept> {
     let holds = draw_verdict(&mut kept.state);
     let fact = Fact {
         lower: lower,
         upper: upper,
         holds: holds,
     };
-    change(b'A', no_trouble(sizes, kept), fact)
+    change(out, b'A', no_trouble(sizes, kept), fact)
 }
 
 // next, and answer if it asks.
-pub fn next(sizes: Sizes, mut kept: Kept) -> Kept {
+pub fn next(out: &mut Out, sizes: Sizes, mut kept: Kept) -> io::Result<Kept> {
     let given = kept.given;
     let session = given.session;
-    let asked = lent::next(session, given.lent, &kept.table);
+    let asked = lent::next(out, session, given.lent, &kept.table)?;
     kept.asks = asked.asks;
     let settled = settle(kept, asked.number, session);
     if asked.asks {
-        return answer(sizes, settled, asked.lower, asked.upper);
+        return answer(out, sizes, settled, asked.lower, asked.upper);
     }
-    settled
+    Ok(settled)
 }
 
-pub fn open_pairs(kept: Kept) -> Kept {
+pub fn open_pairs(out: &mut Out, kept: Kept) -> io::Result<Kept> {
     let given = kept.given;
     let session = given.session;
-    let counted = lent::open_pairs(session, given.lent, &kept.table);
-    settle(kept, counted.number, session)
+    let counted = lent::open_pairs(out, session, given.lent, &kept.table)?;
+    Ok(settle(kept, counted.number, session))
 }
 
-pub fn hierarchy(sizes: Sizes, mut kept: Kept) -> Kept
+pub fn hierarchy(out: &mut Out, sizes: Sizes, mut kept: Kept) -> io::Result<Kept>
     requires { Few sizes.n }
 {
     let rooms = draw_rooms(&mut kept.state, sizes.n);
@@ -99,31 +107,32 @@ pub fn hierarchy(sizes: Sizes, mut kept: Kept) -> Kept
     let mut heads = kept.heads;
     let mut steps = kept.steps;
     let counted = lent::hierarchy(
+        out,
         session,
         given.lent,
         &kept.table,
         rooms,
         &mut heads,
         &mut steps,
-    );
+    )?;
     kept.heads = heads;
     kept.steps = steps;
-    settle(kept, counted.number, session)
+    Ok(settle(kept, counted.number, session))
 }
 
-pub fn ladder(sizes: Sizes, mut kept: Kept) -> Kept
+pub fn ladder(out: &mut Out, sizes: Sizes, mut kept: Kept) -> io::Result<Kept>
     requires { Few sizes.n }
 {
     let rungs = draw_rungs(&mut kept.state, sizes.n);
     let given = kept.given;
     let session = given.session;
     let mut heads = kept.heads;
-    let counted = lent::ladder(session, given.lent, &kept.table, rungs, &mut heads);
+    let counted = lent::ladder(out, session, given.lent, &kept.table, rungs, &mut heads)?;
     kept.heads = heads;
-    settle(kept, counted.number, session)
+    Ok(settle(kept, counted.number, session))
 }
 
-pub fn write(sizes: Sizes, mut kept: Kept) -> Kept
+pub fn write(out: &mut Out, sizes: Sizes, mut kept: Kept) -> io::Result<Kept>
     requires { Few sizes.n }
 {
     let longest = 10 + 2 * square(sizes.n);
@@ -131,12 +140,12 @@ pub fn write(sizes: Sizes, mut kept: Kept) -> Kept
     let given = kept.given;
     let session = given.session;
     let mut book = kept.book;
-    let counted = lent::write(session, given.lent, &kept.table, room, &mut book);
+    let counted = lent::write(out, session, given.lent, &kept.table, room, &mut book)?;
     kept.book = book;
     if counted.number == 0 {
         kept.length = counted.count;
     }
-    settle(kept, counted.number, session)
+    Ok(settle(kept, counted.number, session))
 }
 
 // How many bytes of the book last written are lent. Now and then one of them changes first.
@@ -153,13 +162,13 @@ fn draw_part(state: &mut usize, written: usize, book: &mut [u8]) -> usize {
     length
 }
 
-pub fn read(sizes: Sizes, mut kept: Kept) -> Kept {
+pub fn read(out: &mut Out, sizes: Sizes, mut kept: Kept) -> io::Result<Kept> {
     let length = kept.length;
     let mut book = kept.book;
     let mut spare = kept.spare;
     let part = draw_part(&mut kept.state, length, &mut book);
-    lent::read(part, &book, sizes.lent, &mut spare);
+    lent::read(out, part, &book, sizes.lent, &mut spare)?;
     kept.book = book;
     kept.spare = spare;
-    put_back(kept)
+    Ok(put_back(kept))
 }

@@ -1,5 +1,5 @@
 // What is kept from call to call.
-ghost use Rattle.io.specs.Counts.{IsPrefixLen};
+ghost use Rattle.sweep.specs.Counts.{IsPrefixLen};
 
 use promise::Session;
 

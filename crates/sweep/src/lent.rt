@@ -3,7 +3,9 @@ use crate::answers::{Asked, CountLine, asked_by, count_line};
 use crate::draw::{Fact, Rooms, Rungs};
 use crate::kept::within;
 use crate::show;
+use crate::show::Out;
 use promise::{Clip, Reply, Session};
+use std::io;
 
 // fresh, tell or answer, by its letter.
 fn make(letter: u8, session: Session, fact: Fact, table: &mut [u8]) -> Reply {
@@ -16,46 +18,65 @@ fn make(letter: u8, session: Session, fact: Fact, table: &mut [u8]) -> Reply {
     dawnhangra::answer(session, &mut *table, fact.lower, fact.upper, fact.holds)
 }
 
-pub fn change(letter: u8, session: Session, lent: usize, fact: Fact, table: &mut [u8]) -> Reply {
+pub fn change(
+    out: &mut Out,
+    letter: u8,
+    session: Session,
+    lent: usize,
+    fact: Fact,
+    table: &mut [u8],
+) -> io::Result<Reply> {
     let marks = within(lent, &*table);
     let reply = make(letter, session, fact, &mut table[..marks]);
-    show::reply(letter, reply);
-    show::last(lent, &*table);
-    reply
+    show::reply(out, letter, reply)?;
+    show::last(out, lent, &*table)?;
+    Ok(reply)
 }
 
-pub fn clip(session: Session, lent: usize, clip: Clip, table: &mut [u8]) -> Reply {
+pub fn clip(
+    out: &mut Out,
+    session: Session,
+    lent: usize,
+    clip: Clip,
+    table: &mut [u8],
+) -> io::Result<Reply> {
     let marks = within(lent, &*table);
     let reply = dawnhangra::clip(session, &mut table[..marks], clip);
-    show::reply(b'C', reply);
-    show::last(lent, &*table);
-    reply
+    show::reply(out, b'C', reply)?;
+    show::last(out, lent, &*table)?;
+    Ok(reply)
 }
 
-pub fn next(session: Session, lent: usize, table: &[u8]) -> Asked {
+pub fn next(out: &mut Out, session: Session, lent: usize, table: &[u8]) -> io::Result<Asked> {
     let marks = within(lent, table);
     let asked = asked_by(dawnhangra::next(session, &table[..marks]));
-    show::asked(asked);
-    show::last(lent, table);
-    asked
+    show::asked(out, asked)?;
+    show::last(out, lent, table)?;
+    Ok(asked)
 }
 
-pub fn open_pairs(session: Session, lent: usize, table: &[u8]) -> CountLine {
+pub fn open_pairs(
+    out: &mut Out,
+    session: Session,
+    lent: usize,
+    table: &[u8],
+) -> io::Result<CountLine> {
     let marks = within(lent, table);
     let counted = count_line(dawnhangra::open_pairs(session, &table[..marks]));
-    show::counted(b'O', counted);
-    show::last(lent, table);
-    counted
+    show::counted(out, b'O', counted)?;
+    show::last(out, lent, table)?;
+    Ok(counted)
 }
 
 pub fn hierarchy(
+    out: &mut Out,
     session: Session,
     lent: usize,
     table: &[u8],
     rooms: Rooms,
     heads: &mut [u8],
     steps: &mut [u8],
-) -> CountLine {
+) -> io::Result<CountLine> {
     let marks = within(lent, table);
     let heads_room = within(rooms.heads, &*heads);
     let steps_room = within(rooms.steps, &*steps);
@@ -65,19 +86,20 @@ pub fn hierarchy(
         &mut heads[..heads_room],
         &mut steps[..steps_room],
     ));
-    show::counted(b'H', counted);
-    show::digest(lent, table);
-    show::last_two(heads_room, &*heads, steps_room, &*steps);
-    counted
+    show::counted(out, b'H', counted)?;
+    show::digest(out, lent, table)?;
+    show::last_two(out, heads_room, &*heads, steps_room, &*steps)?;
+    Ok(counted)
 }
 
 pub fn ladder(
+    out: &mut Out,
     session: Session,
     lent: usize,
     table: &[u8],
     rungs: Rungs,
     heads: &mut [u8],
-) -> CountLine {
+) -> io::Result<CountLine> {
     let marks = within(lent, table);
     let room = within(rungs.lent, &*heads);
     let counted = count_line(dawnhangra::ladder(
@@ -87,30 +109,37 @@ pub fn ladder(
         rungs.upper,
         &mut heads[..room],
     ));
-    show::counted(b'L', counted);
-    show::last_two(lent, table, room, &*heads);
-    counted
+    show::counted(out, b'L', counted)?;
+    show::last_two(out, lent, table, room, &*heads)?;
+    Ok(counted)
 }
 
 pub fn write(
+    out: &mut Out,
     session: Session,
     lent: usize,
     table: &[u8],
     room: usize,
     book: &mut [u8],
-) -> CountLine {
+) -> io::Result<CountLine> {
     let marks = within(lent, table);
     let count = within(room, &*book);
     let counted = count_line(dawnhangra::write(session, &table[..marks], &mut book[..count]));
-    show::counted(b'W', counted);
-    show::last_two(lent, table, room, &*book);
-    counted
+    show::counted(out, b'W', counted)?;
+    show::last_two(out, lent, table, room, &*book)?;
+    Ok(counted)
 }
 
-pub fn read(part: usize, book: &[u8], lent: usize, spare: &mut [u8]) {
+pub fn read(
+    out: &mut Out,
+    part: usize,
+    book: &[u8],
+    lent: usize,
+    spare: &mut [u8],
+) -> io::Result<()> {
     let count = within(part, book);
     let marks = within(lent, &*spare);
     let reply = dawnhangra::read(&book[..count], &mut spare[..marks]);
-    show::reply(b'R', reply);
-    show::last_two(lent, &*spare, part, book);
+    show::reply(out, b'R', reply)?;
+    show::last_two(out, lent, &*spare, part, book)
 }

@@ -15,17 +15,21 @@ mod trouble;
 use draw::start;
 use input::numbers;
 use kept::nothing;
-use libc::STDIN_FILENO;
 use round::{most_classes, rounds};
+use std::io;
+use std::io::{BufWriter, Read, Write};
 
 // The three numbers stand in the first 64 bytes of standard input.
-fn main() {
-    let mut text: [u8; 64] = [0; 64];
-    let count = io::read_full(STDIN_FILENO, &mut text);
-    let input = numbers(&text[..count]);
+fn main(rt: HostRuntime) -> io::Result<()> {
+    let mut text = Vec::new(rt.alloc());
+    rt.stdin().take(64).read_to_end(&mut text)?;
+    let input = numbers(&text);
+    let mut out = BufWriter::new(rt.alloc(), rt.stdout())?;
     rounds(
+        &mut out,
         input.rounds,
         most_classes(input.most),
         nothing(start(input.seed)),
-    );
+    )?;
+    out.flush()
 }

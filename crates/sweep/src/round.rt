@@ -5,7 +5,9 @@ ghost use Rattle.sweep.specs.Few.{Few};
 use crate::calls;
 use crate::draw::{draw, square};
 use crate::kept::{Kept, Sizes, untested};
+use crate::show::Out;
 use crate::trouble::{no_trouble, trouble};
+use std::io;
 
 // The most classes of a round: 12 where none are asked for, and never above 128.
 pub fn most_classes(asked: usize) -> usize
@@ -42,74 +44,74 @@ fn draw_sizes(state: &mut usize, most: usize) -> Sizes
 }
 
 // fresh with trouble, and if it is refused with none.
-fn begin(sizes: Sizes, mut kept: Kept) -> Kept
+fn begin(out: &mut Out, sizes: Sizes, mut kept: Kept) -> io::Result<Kept>
     requires { Few sizes.n }
 {
     kept.session = untested(sizes.n);
-    let begun = calls::fresh(trouble(sizes, kept));
+    let begun = calls::fresh(out, trouble(sizes, kept))?;
     if begun.accepted {
-        return begun;
+        return Ok(begun);
     }
-    calls::fresh(no_trouble(sizes, begun))
+    calls::fresh(out, no_trouble(sizes, begun))
 }
 
 // Where there are many classes they are now and then told to be in a row, so that few questions settle all.
-fn in_a_row(sizes: Sizes, mut kept: Kept) -> Kept
+fn in_a_row(out: &mut Out, sizes: Sizes, mut kept: Kept) -> io::Result<Kept>
     requires { Few sizes.n }
 {
     if sizes.n <= 12 {
-        return kept;
+        return Ok(kept);
     }
     if draw(&mut kept.state, 2) == 0 {
-        return kept;
+        return Ok(kept);
     }
     for class in 1..sizes.n {
-        kept = calls::tell_under(class - 1, class, no_trouble(sizes, kept));
+        kept = calls::tell_under(out, class - 1, class, no_trouble(sizes, kept))?;
     }
-    kept
+    Ok(kept)
 }
 
 // A call with trouble.
-fn call(sizes: Sizes, kept: Kept) -> Kept
+fn call(out: &mut Out, sizes: Sizes, kept: Kept) -> io::Result<Kept>
     requires { Few sizes.n }
 {
     let mut troubled = trouble(sizes, kept);
     match draw(&mut troubled.state, 19) {
-        0..=4 => calls::tell_or_answer(b'T', sizes, troubled),
-        5..=8 => calls::tell_or_answer(b'A', sizes, troubled),
-        9 | 10 => calls::next(sizes, troubled),
-        11 => calls::hierarchy(sizes, troubled),
-        12 | 13 => calls::ladder(sizes, troubled),
-        14 => calls::write(sizes, troubled),
-        15 => calls::read(sizes, troubled),
-        16 | 17 => calls::clip(sizes, troubled),
-        _ => calls::open_pairs(troubled),
+        0..=4 => calls::tell_or_answer(out, b'T', sizes, troubled),
+        5..=8 => calls::tell_or_answer(out, b'A', sizes, troubled),
+        9 | 10 => calls::next(out, sizes, troubled),
+        11 => calls::hierarchy(out, sizes, troubled),
+        12 | 13 => calls::ladder(out, sizes, troubled),
+        14 => calls::write(out, sizes, troubled),
+        15 => calls::read(out, sizes, troubled),
+        16 | 17 => calls::clip(out, sizes, troubled),
+        _ => calls::open_pairs(out, troubled),
     }
 }
 
 // Calls with trouble: 4, and as many more as a draw says.
-fn some_calls(sizes: Sizes, mut kept: Kept, below: usize) -> Kept
+fn some_calls(out: &mut Out, sizes: Sizes, mut kept: Kept, below: usize) -> io::Result<Kept>
     requires few { Few sizes.n }
     requires le_below { (1 ≤ below) × (below ≤ 145) }
 {
     for _ in 0..4 + draw(&mut kept.state, below) {
-        kept = call(sizes, kept);
+        kept = call(out, sizes, kept)?;
     }
-    kept
+    Ok(kept)
 }
 
 const MOST_QUESTIONS: usize = 400;
 
 // next without trouble until it does not ask, or has asked often enough. Up to 12 classes it stops by itself, since
 // each answer settles a pair.
-fn settle_all(sizes: Sizes, mut kept: Kept) -> Kept {
+fn settle_all(out: &mut Out, sizes: Sizes, mut kept: Kept) -> io::Result<Kept> {
     for _ in 0..MOST_QUESTIONS {
-        kept = calls::next(sizes, no_trouble(sizes, kept));
+        kept = calls::next(out, sizes, no_trouble(sizes, kept))?;
         if !kept.asks {
-            return kept;
+            return Ok(kept);
         }
     }
-    kept
+    Ok(kept)
 }
 
 // How many calls with trouble more than 4 there are at most.
@@ -122,20 +124,22 @@ fn most_calls(n: usize) -> usize
     n * n + 1
 }
 
-fn round(most: usize, mut kept: Kept) -> Kept
+fn round(out: &mut Out, most: usize, mut kept: Kept) -> io::Result<Kept>
     requires { Few most }
 {
     let sizes = draw_sizes(&mut kept.state, most);
-    let begun = in_a_row(sizes, begin(sizes, kept));
-    let called = some_calls(sizes, begun, most_calls(sizes.n));
-    let settled = settle_all(sizes, called);
-    some_calls(sizes, settled, 5)
+    let begun = begin(out, sizes, kept)?;
+    let told = in_a_row(out, sizes, begun)?;
+    let called = some_calls(out, sizes, told, most_calls(sizes.n))?;
+    let settled = settle_all(out, sizes, called)?;
+    some_calls(out, sizes, settled, 5)
 }
 
-pub fn rounds(count: usize, most: usize, mut kept: Kept)
+pub fn rounds(out: &mut Out, count: usize, most: usize, mut kept: Kept) -> io::Result<()>
     requires { Few most }
 {
     for _ in 0..count {
-        kept = round(most, kept);
+        kept = round(out, most, kept)?;
     }
+    Ok(())
 }

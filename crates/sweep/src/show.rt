@@ -1,48 +1,51 @@
 // The lines: a letter, what the call gave, and the digests of the bytes that were lent to it.
 use crate::answers::{Asked, CountLine};
 use crate::kept::within;
-use libc::STDOUT_FILENO;
 use promise::Reply;
+use std::io;
+use std::io::{BufWriter, Stdout, Write};
 
-fn byte(x: u8) {
-    let text = [x];
-    io::write_all(STDOUT_FILENO, &text);
+// Where the lines go.
+pub type Out = BufWriter<Stdout>;
+
+fn byte(out: &mut Out, x: u8) -> io::Result<()> {
+    out.write_all(&[x])
 }
 
-fn number(x: usize) {
-    byte(b' ');
-    io::print_decimal(STDOUT_FILENO, x as u64);
+fn number(out: &mut Out, x: usize) -> io::Result<()> {
+    write!(out, " {x}")
 }
 
 // How each line begins: both numbers are 0 where the call was accepted.
-fn begin(letter: u8, refusal: u8, place: usize) {
-    byte(letter);
-    number(refusal as usize);
-    number(place);
+fn begin(out: &mut Out, letter: u8, refusal: u8, place: usize) -> io::Result<()> {
+    byte(out, letter)?;
+    number(out, refusal as usize)?;
+    number(out, place)
 }
 
-pub fn reply(letter: u8, given: Reply) {
+pub fn reply(out: &mut Out, letter: u8, given: Reply) -> io::Result<()> {
     let session = given.session;
-    begin(letter, given.number, given.place);
-    number(session.classes);
-    number(session.tests);
+    begin(out, letter, given.number, given.place)?;
+    number(out, session.classes)?;
+    number(out, session.tests)
 }
 
-pub fn counted(letter: u8, given: CountLine) {
-    begin(letter, given.number, given.place);
-    number(given.count);
+pub fn counted(out: &mut Out, letter: u8, given: CountLine) -> io::Result<()> {
+    begin(out, letter, given.number, given.place)?;
+    number(out, given.count)
 }
 
-pub fn asked(given: Asked) {
-    begin(b'N', given.number, given.place);
+pub fn asked(out: &mut Out, given: Asked) -> io::Result<()> {
+    begin(out, b'N', given.number, given.place)?;
     if given.asks {
-        number(given.lower);
-        number(given.upper);
+        number(out, given.lower)?;
+        number(out, given.upper)?;
     }
+    Ok(())
 }
 
 // The digest of the first bytes of a buffer, as many as were lent.
-pub fn digest(lent: usize, buffer: &[u8]) {
+pub fn digest(out: &mut Out, lent: usize, buffer: &[u8]) -> io::Result<()> {
     let count = within(lent, buffer);
     let mut value: usize = 7;
     let mut i: usize = 0;
@@ -50,7 +53,7 @@ pub fn digest(lent: usize, buffer: &[u8]) {
         value = with_byte(value, buffer[i]);
         i += 1;
     }
-    number(value);
+    number(out, value)
 }
 
 // The digest is below the modulus anyway: reducing it first spares an invariant.
@@ -59,13 +62,19 @@ fn with_byte(value: usize, x: u8) -> usize {
 }
 
 // The digest that a line ends with.
-pub fn last(lent: usize, buffer: &[u8]) {
-    digest(lent, buffer);
-    byte(b'\n');
+pub fn last(out: &mut Out, lent: usize, buffer: &[u8]) -> io::Result<()> {
+    digest(out, lent, buffer)?;
+    byte(out, b'\n')
 }
 
 // The two digests that a line ends with.
-pub fn last_two(lent: usize, buffer: &[u8], other_lent: usize, other: &[u8]) {
-    digest(lent, buffer);
-    last(other_lent, other);
+pub fn last_two(
+    out: &mut Out,
+    lent: usize,
+    buffer: &[u8],
+    other_lent: usize,
+    other: &[u8],
+) -> io::Result<()> {
+    digest(out, lent, buffer)?;
+    last(out, other_lent, other)
 }
