@@ -1,4 +1,8 @@
 // The three numbers of standard input.
+ghost use Rattle.std.specs.Prelude.{◌≤◌, length, IfOk};
+
+use std::io;
+use std::io::Read;
 
 const MODULUS: usize = 1000000007;
 
@@ -72,4 +76,19 @@ pub fn numbers(text: &[u8]) -> Input {
         i += 1;
     }
     input
+}
+
+// Reads until the buffer is full or the input ends, and gives how many bytes came.
+pub fn fill<R: Read>(reader: &mut R, text: &mut [u8]) -> io::Result<usize>
+    ensures { IfOk result (λ count. count ≤ length text.new) }
+{
+    let mut count: usize = 0;
+    while count < text.len() {
+        let got = reader.read(&mut text[count..])?;
+        if got == 0 {
+            return Ok(count);
+        }
+        count += got;
+    }
+    Ok(count)
 }

@@ -13,23 +13,20 @@ mod show;
 mod trouble;
 
 use draw::start;
-use input::numbers;
+use input::{fill, numbers};
 use kept::nothing;
 use round::{most_classes, rounds};
 use std::io;
-use std::io::{BufWriter, Read, Write};
 
 // The three numbers stand in the first 64 bytes of standard input.
 fn main(rt: HostRuntime) -> io::Result<()> {
-    let mut text = Vec::new(rt.alloc());
-    rt.stdin().take(64).read_to_end(&mut text)?;
-    let input = numbers(&text);
-    let mut out = BufWriter::new(rt.alloc(), rt.stdout())?;
+    let mut text: [u8; 64] = [0; 64];
+    let count = fill(&mut rt.stdin(), &mut text)?;
+    let input = numbers(&text[..count]);
     rounds(
-        &mut out,
+        &mut rt.stdout(),
         input.rounds,
         most_classes(input.most),
         nothing(start(input.seed)),
-    )?;
-    out.flush()
+    )
 }

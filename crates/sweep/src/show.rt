@@ -3,10 +3,10 @@ use crate::answers::{Asked, CountLine};
 use crate::kept::within;
 use promise::Reply;
 use std::io;
-use std::io::{BufWriter, Stdout, Write};
+use std::io::{Stdout, Write};
 
 // Where the lines go.
-pub type Out = BufWriter<Stdout>;
+pub type Out = Stdout;
 
 fn byte(out: &mut Out, x: u8) -> io::Result<()> {
     out.write_all(&[x])
