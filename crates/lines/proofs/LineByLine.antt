@@ -57,7 +57,8 @@ class_more i heads h =
 -- the line of one class more was put
 pub class_put :
     {at : ℕ} {text : List ℕ} {behind : ℕ} {text₁ : List ℕ} {end : ℕ} {text₂ : List ℕ} (i : ℕ) (heads : List ℕ)
-    → i < length heads → i < 256 → get_or heads i 0 < 256 → LinesPut i (class_lines 0 (take i heads)) at text behind text₁
+    → i < length heads → i < 256 → get_or heads i 0 < 256
+    → LinesPut i (class_lines 0 (take i heads)) at text behind text₁
     → Put (line capital_c i (get_or heads i 0)) behind text₁ end text₂
     → LinesPut (i + 1) (class_lines 0 (take (i + 1) heads)) at text end text₂
 class_put i heads h few byte = one_more capital_c i (get_or heads i 0) few byte (class_more i heads h)

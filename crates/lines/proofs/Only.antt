@@ -31,8 +31,8 @@ shows_unique {n} {k} {t} (Shows.asks p) (Shows.asks q) =
 shows_unique (Shows.asks p) (Shows.settled o h l) = absurd (not_both p o)
 shows_unique (Shows.settled o h l) (Shows.asks p) = absurd (not_both p o)
 shows_unique {n} {k} {t} (Shows.settled {heads = hs} o h l) (Shows.settled {heads = hs₂} o₂ h₂ l₂) =
-    ap₂ (λ (u : List ℕ) (v : List Pair). counts_line n k 0 ++ (class_lines 0 u ++ step_lines v)) (heads_unique hs hs₂ h h₂)
-    (lists_unique l l₂)
+    ap₂ (λ (u : List ℕ) (v : List Pair). counts_line n k 0 ++ (class_lines 0 u ++ step_lines v))
+    (heads_unique hs hs₂ h h₂) (lists_unique l l₂)
 
 pub says_unique : {r : Reply} {t x y : List ℕ} → Says r t x → Says r t y → x ≡ y
 says_unique {r} {t} {x} {y} h h₂ = go (ℕ_discrete r.number 0)
