@@ -18,7 +18,7 @@ use kept::nothing;
 use round::{most_classes, rounds};
 use std::io;
 
-// The three numbers stand in the first 64 bytes of standard input.
+// The three numbers stand in the first 64 bytes of standard input. An error of reading or of writing ends the program.
 fn main(rt: HostRuntime) -> io::Result<()> {
     let mut text: [u8; 64] = [0; 64];
     let count = fill(&mut rt.stdin(), &mut text)?;
