@@ -29,7 +29,7 @@ fn fill<R: Read>(reader: &mut R, input: &mut [u8]) -> io::Result<usize>
 
 fn main(rt: HostRuntime) -> io::Result<()> {
     let mut input = [0u8; 4096];
-    let got = fill(&mut rt.reader(), &mut input)?;
+    let got = fill(&mut rt.stdin(), &mut input)?;
     let mut table = [7u8; 16384];
     script::run(&rt, &input[..got], &mut table)
 }
