@@ -18,6 +18,8 @@ DECLARED = re.compile(
     r"^\s*(?:(?:abbrev|unfoldable|pub|record|data|ruleset)\s+)*(?:\{[^}]*\}\s*)?"
     r"([^\s(){}:;=,.\u03bb\u25cc\"]+)\s*(?::|=|\()"
 )
+# Variants that stand on one line.
+SEVERAL = re.compile(r"^  ((?:[A-Za-z][A-Za-z0-9_'-]* )+): ")
 PLAIN = re.compile(r"^[A-Za-z][A-Za-z0-9_'\u2080-\u2089?-]*$")
 # Names that the toolchain's script has turned in code and proofs already; pages and edits still have the old ones.
 TURNED = """
@@ -50,6 +52,7 @@ def snake(name):
     asks = name.endswith("?")
     if asks:
         name = name[:-1]
+    name = re.sub(r"([A-Z])([A-Z][a-z])", r"\1-\2", name)
     name = re.sub(r"([a-z0-9])([A-Z])", r"\1-\2", name)
     name = name.replace("-", "_")
     name = "".join(c.lower() for c in name)
@@ -90,13 +93,13 @@ def is_old(name):
 def declared():
     names = {}
     for f in lemma_files():
-        in_use = False
         for line in open(f, encoding="utf-8"):
             if line.startswith("use ") or line.lstrip().startswith("--"):
                 continue
-            m = DECLARED.match(line)
-            if m and is_old(m.group(1)):
-                names.setdefault(m.group(1), set()).add(f)
+            found = SEVERAL.match(line) or DECLARED.match(line)
+            for name in found.group(1).split() if found else []:
+                if is_old(name):
+                    names.setdefault(name, set()).add(f)
     return names
 
 

@@ -49,7 +49,7 @@ pub example_printed :
     ∷ 69 ∷ 32 ∷ 48 ∷ 32 ∷ 49 ∷ 10 ∷ []
 unfolding opens_to decimal digits
 example_printed p =
-    let d = (met Mark.P8-hierarchy).done refl in
+    let d = (met Mark.p8_hierarchy).done refl in
     let heads : d.0 ≡ 0 ∷ 1 ∷ 1 ∷ [] =
     sym
     (ap (λ (o : Counted × (List ℕ × List ℕ)). take 3 o.1.0) d.4
@@ -61,7 +61,7 @@ example_printed p =
     (ap (λ (o : Counted × (List ℕ × List ℕ)). take 2 o.1.1) d.4)
     in
     rw (heads, steps) at
-    (shows_unique ((read_says (met Mark.example-read) p).accepted refl)
+    (shows_unique ((read_says (met Mark.example_read) p).accepted refl)
     (Shows.settled refl d.2 d.3))
 
 -- "Without the last six bytes": N 3 T 0 O 2, Q 1 0
@@ -71,15 +71,15 @@ pub example_cut_printed :
     ∷ 81 ∷ 32 ∷ 49 ∷ 32 ∷ 48 ∷ 10 ∷ []
 unfolding opens_to decimal digits
 example_cut_printed p =
-    shows_unique ((read_says (met Mark.example-cut-read) p).accepted refl)
-    (Shows.asks ((met Mark.example-cut-asks).done refl))
+    shows_unique ((read_says (met Mark.example_cut_read) p).accepted refl)
+    (Shows.asks ((met Mark.example_cut_asks).done refl))
 
 -- R 14 7
 pub refused_printed :
     {text : List ℕ} → Printed (1 ∷ 0 ∷ 1 ∷ 3 ∷ 4 ∷ 0 ∷ 3 ∷ 1 ∷ 0 ∷ 2 ∷ []) (nines 9) text
     → text ≡ 82 ∷ 32 ∷ 49 ∷ 52 ∷ 32 ∷ 55 ∷ 10 ∷ []
 unfolding decimal digits
-refused_printed p = (read_says (met Mark.later-verdict) p).refused (λ e. omega (arith, e))
+refused_printed p = (read_says (met Mark.later_verdict) p).refused (λ e. omega (arith, e))
 
 -- R 15 32768, whatever the bytes are
 pub too_long_printed :

@@ -35,9 +35,9 @@ p3_table =
         record {
           reply = replied 0 0 (three 0);
           table = p2;
-          began = met Mark.P2-fresh;
+          began = met Mark.p2_fresh;
           accepted = refl;
-          run = Run.call (met Mark.P3-told) refl Run.stop;
+          run = Run.call (met Mark.p3_told) refl Run.stop;
         }
 
 -- "(0, 1) and (1, 2) are both open, though no order has both"

@@ -22,11 +22,11 @@ pub data Input : Type 0 where
   tell : (kind : Kind) (s : Session) (t : List ℕ) (f : Fact) → Input
   clip : (s : Session) (t : List ℕ) (played : List Bool) → Input
   clip_bytes : (s : Session) (t bytes : List ℕ) → Input
-  next next_for_c open_pairs openPairsForC : (s : Session) (t : List ℕ) → Input
-  hierarchy hierarchyForC : (s : Session) (t heads steps : List ℕ) → Input
-  ladder ladderForC : (s : Session) (t : List ℕ) (a b : ℕ) (out : List ℕ) → Input
+  next next_for_c open_pairs open_pairs_for_c : (s : Session) (t : List ℕ) → Input
+  hierarchy hierarchy_for_c : (s : Session) (t heads steps : List ℕ) → Input
+  ladder ladder_for_c : (s : Session) (t : List ℕ) (a b : ℕ) (out : List ℕ) → Input
   read : (book t : List ℕ) → Input
-  write writeForC : (s : Session) (t out : List ℕ) → Input
+  write write_for_c : (s : Session) (t out : List ℕ) → Input
 
 -- all that comes out
 abbrev pub Outcome : Input → Type 0
@@ -37,14 +37,14 @@ Outcome (Input.clip_bytes s t bytes) = Reply × List ℕ
 Outcome (Input.next s t) = Question
 Outcome (Input.next_for_c s t) = CrossedQuestion
 Outcome (Input.open_pairs s t) = Counted
-Outcome (Input.openPairsForC s t) = CrossedCount
+Outcome (Input.open_pairs_for_c s t) = CrossedCount
 Outcome (Input.hierarchy s t heads steps) = Counted × (List ℕ × List ℕ)
-Outcome (Input.hierarchyForC s t heads steps) = CrossedCount × (List ℕ × List ℕ)
+Outcome (Input.hierarchy_for_c s t heads steps) = CrossedCount × (List ℕ × List ℕ)
 Outcome (Input.ladder s t a b out) = Counted × List ℕ
-Outcome (Input.ladderForC s t a b out) = CrossedCount × List ℕ
+Outcome (Input.ladder_for_c s t a b out) = CrossedCount × List ℕ
 Outcome (Input.read book t) = Reply × List ℕ
 Outcome (Input.write s t out) = Counted × List ℕ
-Outcome (Input.writeForC s t out) = CrossedCount × List ℕ
+Outcome (Input.write_for_c s t out) = CrossedCount × List ℕ
 
 -- a row of the table
 pub record Row : Type 0 where
@@ -169,232 +169,232 @@ unbegun number = (replied number 0 nothing, nines 9)
 
 -- the names of the rows; where one ends in -first, a later refusal is due as well
 pub data Mark : Type 0 where
-  P1-fresh P1-done : Mark
-  P2-fresh P2-open P2-asks : Mark
-  P3-told P3-open : Mark
-  P4-told P4-open : Mark
+  p1_fresh p1_done : Mark
+  p2_fresh p2_open p2_asks : Mark
+  p3_told p3_open : Mark
+  p4_told p4_open : Mark
   p5_refused : Mark
-  P6-first-told P6-told P6-open : Mark
-  P7-told P7-open P7-asks : Mark
-  P8-told P8-open P8-done P8-hierarchy : Mark
+  p6_first_told p6_told p6_open : Mark
+  p7_told p7_open p7_asks : Mark
+  p8_told p8_open p8_done p8_hierarchy : Mark
   p9_refused : Mark
   p10_answered : Mark
-  P11-read P11-hierarchy P11-ladder P11-not-under : Mark
-  P12-written P12-read : Mark
-  answer-open answer-settled answer-draws answer-refused : Mark
-  fresh-no-class fresh-129-classes fresh-short-table next-no-class next-short-table next-not-sound next-no-mark : Mark
-  next-not-sound-first next-overcounted next-all-tested open-no-class open-short-table open-not-sound : Mark
-  open-overcounted tell-129-classes tell-overcounted-first tell-lower-beyond tell-upper-beyond : Mark
+  p11_read p11_hierarchy p11_ladder p11_not_under : Mark
+  p12_written p12_read : Mark
+  answer_open answer_settled answer_draws answer_refused : Mark
+  fresh_no_class fresh_129_classes fresh_short_table next_no_class next_short_table next_not_sound next_no_mark : Mark
+  next_not_sound_first next_overcounted next_all_tested open_no_class open_short_table open_not_sound : Mark
+  open_overcounted tell_129_classes tell_overcounted_first tell_lower_beyond tell_upper_beyond : Mark
   tell_contradicts_beyond : Mark
-  hierarchy-short-steps hierarchy-short-heads hierarchy-open-first hierarchy_open ladder_short ladder_fits : Mark
-  ladder_equal ladder-beyond-first ladder-upper-beyond ladder-open-first ladder-open-short ladder_open : Mark
-  write-short write-one-class write-open : Mark
-  example-read example-cut-read example-cut-open example-cut-asks : Mark
-  book-empty book-cut-head book-cut-head-first book-unknown-tag book-tag-zero book-misplaced : Mark
-  book-misplaced-first book-two-counts book-length-first book-no-count book-cut-contents book-no-class : Mark
-  book-129-classes book-short-table : Mark
-  book-count-alone later-cut-head later-cut-length later-unknown-tag later-tag-zero later-tag-five : Mark
-  later-second-count later-yes-length later-no-length later-answers-length later-cut-contents later-long-length : Mark
-  later-verdict later-verdict-first later-class-beyond later-second-verdict later-contradicts later-far : Mark
-  book-no-answers book-answers : Mark
-  clip-of-two clip-of-second clip-of-one clip-rest-kept : Mark
+  hierarchy_short_steps hierarchy_short_heads hierarchy_open_first hierarchy_open ladder_short ladder_fits : Mark
+  ladder_equal ladder_beyond_first ladder_upper_beyond ladder_open_first ladder_open_short ladder_open : Mark
+  write_short write_one_class write_open : Mark
+  example_read example_cut_read example_cut_open example_cut_asks : Mark
+  book_empty book_cut_head book_cut_head_first book_unknown_tag book_tag_zero book_misplaced : Mark
+  book_misplaced_first book_two_counts book_length_first book_no_count book_cut_contents book_no_class : Mark
+  book_129_classes book_short_table : Mark
+  book_count_alone later_cut_head later_cut_length later_unknown_tag later_tag_zero later_tag_five : Mark
+  later_second_count later_yes_length later_no_length later_answers_length later_cut_contents later_long_length : Mark
+  later_verdict later_verdict_first later_class_beyond later_second_verdict later_contradicts later_far : Mark
+  book_no_answers book_answers : Mark
+  clip_of_two clip_of_second clip_of_one clip_rest_kept : Mark
   clip_of_none clip_of_all : Mark
-  clip-first-contradicts clip-later-contradicts : Mark
-  clip_beyond clip-beyond-first clip-overcounted-first clip-not-sound-first clip-short-table clip-129-classes : Mark
-  bytes-of-two bytes-more-flags bytes-too-few bytes-most-flags bytes-too-many bytes-beyond bytes-contradict : Mark
+  clip_first_contradicts clip_later_contradicts : Mark
+  clip_beyond clip_beyond_first clip_overcounted_first clip_not_sound_first clip_short_table clip_129_classes : Mark
+  bytes_of_two bytes_more_flags bytes_too_few bytes_most_flags bytes_too_many bytes_beyond bytes_contradict : Mark
   bytes_overcounted_first : Mark
-  C-asks C-done C-next-refused C-open C-open-refused C-hierarchy C-hierarchy-refused C-ladder : Mark
-  C-ladder-refused C-write C-write-refused : Mark
+  c_asks c_done c_next_refused c_open c_open_refused c_hierarchy c_hierarchy_refused c_ladder : Mark
+  c_ladder_refused c_write c_write_refused : Mark
 
 abbrev pub row : Mark → Row
 -- P1
-row Mark.P1-fresh = Input.fresh 1 (nines 2) gives (replied 0 0 (started 1), 1 ∷ 9 ∷ [])
-row Mark.P1-done = Input.next (started 1) (1 ∷ 9 ∷ []) gives Done
+row Mark.p1_fresh = Input.fresh 1 (nines 2) gives (replied 0 0 (started 1), 1 ∷ 9 ∷ [])
+row Mark.p1_done = Input.next (started 1) (1 ∷ 9 ∷ []) gives Done
 -- P2
-row Mark.P2-fresh = Input.fresh 3 (nines 9) gives (replied 0 0 (three 0), p2)
-row Mark.P2-open = Input.open_pairs (three 0) p2 gives Count 6
-row Mark.P2-asks = Input.next (three 0) p2 gives Ask 0 1
+row Mark.p2_fresh = Input.fresh 3 (nines 9) gives (replied 0 0 (three 0), p2)
+row Mark.p2_open = Input.open_pairs (three 0) p2 gives Count 6
+row Mark.p2_asks = Input.next (three 0) p2 gives Ask 0 1
 -- P3
-row Mark.P3-told = Input.tell Kind.told (three 0) p2 (not_under 0 2) gives (replied 0 0 (three 0), p3)
-row Mark.P3-open = Input.open_pairs (three 0) p3 gives Count 5
+row Mark.p3_told = Input.tell Kind.told (three 0) p2 (not_under 0 2) gives (replied 0 0 (three 0), p3)
+row Mark.p3_open = Input.open_pairs (three 0) p3 gives Count 5
 -- P4
-row Mark.P4-told = Input.tell Kind.told (three 0) p3 (under 0 1) gives (replied 0 0 (three 0), p4)
-row Mark.P4-open = Input.open_pairs (three 0) p4 gives Count 3
+row Mark.p4_told = Input.tell Kind.told (three 0) p3 (under 0 1) gives (replied 0 0 (three 0), p4)
+row Mark.p4_open = Input.open_pairs (three 0) p4 gives Count 3
 -- P5
 row Mark.p5_refused = Input.tell Kind.told (three 0) p4 (under 1 2) gives (replied 6 0 (three 0), p4)
 -- P6
-row Mark.P6-first-told = Input.tell Kind.told (three 0) p2 (under 0 1) gives (replied 0 0 (three 0), after_yes)
-row Mark.P6-told = Input.tell Kind.told (three 0) after_yes (under 1 2) gives (replied 0 0 (three 0), p6)
-row Mark.P6-open = Input.open_pairs (three 0) p6 gives Count 3
+row Mark.p6_first_told = Input.tell Kind.told (three 0) p2 (under 0 1) gives (replied 0 0 (three 0), after_yes)
+row Mark.p6_told = Input.tell Kind.told (three 0) after_yes (under 1 2) gives (replied 0 0 (three 0), p6)
+row Mark.p6_open = Input.open_pairs (three 0) p6 gives Count 3
 -- P7
-row Mark.P7-told = Input.tell Kind.told (three 0) p6 (not_under 2 0) gives (replied 0 0 (three 0), p7)
-row Mark.P7-open = Input.open_pairs (three 0) p7 gives Count 2
-row Mark.P7-asks = Input.next (three 0) p7 gives Ask 1 0
+row Mark.p7_told = Input.tell Kind.told (three 0) p6 (not_under 2 0) gives (replied 0 0 (three 0), p7)
+row Mark.p7_open = Input.open_pairs (three 0) p7 gives Count 2
+row Mark.p7_asks = Input.next (three 0) p7 gives Ask 1 0
 -- P8
-row Mark.P8-told = Input.tell Kind.told (three 0) p7 (under 2 1) gives (replied 0 0 (three 0), p8)
-row Mark.P8-open = Input.open_pairs (three 0) p8 gives Count 0
-row Mark.P8-done = Input.next (three 0) p8 gives Done
-row Mark.P8-hierarchy =
+row Mark.p8_told = Input.tell Kind.told (three 0) p7 (under 2 1) gives (replied 0 0 (three 0), p8)
+row Mark.p8_open = Input.open_pairs (three 0) p8 gives Count 0
+row Mark.p8_done = Input.next (three 0) p8 gives Done
+row Mark.p8_hierarchy =
     Input.hierarchy (three 0) p8 (nines 4) (nines 3) gives (Count 1, (0 ∷ 1 ∷ 1 ∷ 9 ∷ [], 0 ∷ 1 ∷ 9 ∷ []))
 -- P9
 row Mark.p9_refused = Input.tell Kind.told (three 0) p2 (not_under 1 1) gives (replied 6 0 (three 0), p2)
 -- P10
 row Mark.p10_answered = Input.tell Kind.answered (three 0) p2 (under 1 1) gives (replied 0 0 (three 0), p2)
 -- P11
-row Mark.P11-read =
+row Mark.p11_read =
     Input.read (1 ∷ 0 ∷ 1 ∷ 4 ∷ 2 ∷ 0 ∷ 8 ∷ 0 ∷ 1 ∷ 0 ∷ 2 ∷ 1 ∷ 3 ∷ 2 ∷ 3 ∷ 3 ∷ 0 ∷ 4 ∷ 1 ∷ 2 ∷ 2 ∷ 1 ∷ []) (nines 16)
     gives (replied 0 0 four, p11)
-row Mark.P11-hierarchy =
+row Mark.p11_hierarchy =
     Input.hierarchy four p11 (nines 4) (nines 8)
     gives (Count 4, (0 ∷ 1 ∷ 2 ∷ 3 ∷ [], 0 ∷ 1 ∷ 0 ∷ 2 ∷ 1 ∷ 3 ∷ 2 ∷ 3 ∷ []))
-row Mark.P11-ladder = Input.ladder four p11 0 3 (nines 3) gives (Count 3, 0 ∷ 1 ∷ 3 ∷ [])
-row Mark.P11-not-under = Input.ladder four p11 1 2 (nines 3) gives (Refused 9 0, nines 3)
+row Mark.p11_ladder = Input.ladder four p11 0 3 (nines 3) gives (Count 3, 0 ∷ 1 ∷ 3 ∷ [])
+row Mark.p11_not_under = Input.ladder four p11 1 2 (nines 3) gives (Refused 9 0, nines 3)
 -- P12
-row Mark.P12-written = Input.write (three 0) p8 (nines 22) gives (Count 22, p12)
-row Mark.P12-read = book p12 gives (replied 0 0 (three 0), p8)
+row Mark.p12_written = Input.write (three 0) p8 (nines 22) gives (Count 22, p12)
+row Mark.p12_read = book p12 gives (replied 0 0 (three 0), p8)
 -- an answer counts on an open pair, not on a settled one, nor where it is refused
-row Mark.answer-open = Input.tell Kind.answered (three 0) p7 (under 2 1) gives (replied 0 0 (three 1), p8)
-row Mark.answer-settled = Input.tell Kind.answered (three 1) p8 (under 0 2) gives (replied 0 0 (three 1), p8)
-row Mark.answer-draws = Input.tell Kind.answered (three 0) p3 (under 0 1) gives (replied 0 0 (three 1), p4)
-row Mark.answer-refused = Input.tell Kind.answered (three 0) p4 (under 1 2) gives (replied 6 0 (three 0), p4)
+row Mark.answer_open = Input.tell Kind.answered (three 0) p7 (under 2 1) gives (replied 0 0 (three 1), p8)
+row Mark.answer_settled = Input.tell Kind.answered (three 1) p8 (under 0 2) gives (replied 0 0 (three 1), p8)
+row Mark.answer_draws = Input.tell Kind.answered (three 0) p3 (under 0 1) gives (replied 0 0 (three 1), p4)
+row Mark.answer_refused = Input.tell Kind.answered (three 0) p4 (under 1 2) gives (replied 6 0 (three 0), p4)
 -- class counts, tables and tallies: refusals 1 to 4, each before those that follow
-row Mark.fresh-no-class = Input.fresh 0 (nines 1) gives (replied 1 0 nothing, nines 1)
-row Mark.fresh-129-classes = Input.fresh 129 (nines 1) gives (replied 1 0 nothing, nines 1)
-row Mark.fresh-short-table = Input.fresh 3 (nines 8) gives (replied 2 0 nothing, nines 8)
-row Mark.next-no-class = Input.next (started 0) [] gives Question.Refused 1 0
-row Mark.next-short-table = Input.next (three 0) (nines 8) gives Question.Refused 2 0
-row Mark.next-not-sound = Input.next (three 0) unsound gives Question.Refused 3 0
-row Mark.next-no-mark = Input.next (three 0) (1 ∷ 3 ∷ 0 ∷ 0 ∷ 1 ∷ 0 ∷ 0 ∷ 0 ∷ 1 ∷ []) gives Question.Refused 3 0
-row Mark.next-not-sound-first = Input.next (three 7) unsound gives Question.Refused 3 0
-row Mark.next-overcounted = Input.next (three 1) p2 gives Question.Refused 4 0
-row Mark.next-all-tested = Input.next (three 6) p8 gives Done
-row Mark.open-no-class = Input.open_pairs (started 0) [] gives Refused 1 0
-row Mark.open-short-table = Input.open_pairs (three 0) (nines 8) gives Refused 2 0
-row Mark.open-not-sound = Input.open_pairs (three 0) unsound gives Refused 3 0
-row Mark.open-overcounted = Input.open_pairs (three 1) p2 gives Refused 4 0
-row Mark.tell-129-classes =
+row Mark.fresh_no_class = Input.fresh 0 (nines 1) gives (replied 1 0 nothing, nines 1)
+row Mark.fresh_129_classes = Input.fresh 129 (nines 1) gives (replied 1 0 nothing, nines 1)
+row Mark.fresh_short_table = Input.fresh 3 (nines 8) gives (replied 2 0 nothing, nines 8)
+row Mark.next_no_class = Input.next (started 0) [] gives Question.Refused 1 0
+row Mark.next_short_table = Input.next (three 0) (nines 8) gives Question.Refused 2 0
+row Mark.next_not_sound = Input.next (three 0) unsound gives Question.Refused 3 0
+row Mark.next_no_mark = Input.next (three 0) (1 ∷ 3 ∷ 0 ∷ 0 ∷ 1 ∷ 0 ∷ 0 ∷ 0 ∷ 1 ∷ []) gives Question.Refused 3 0
+row Mark.next_not_sound_first = Input.next (three 7) unsound gives Question.Refused 3 0
+row Mark.next_overcounted = Input.next (three 1) p2 gives Question.Refused 4 0
+row Mark.next_all_tested = Input.next (three 6) p8 gives Done
+row Mark.open_no_class = Input.open_pairs (started 0) [] gives Refused 1 0
+row Mark.open_short_table = Input.open_pairs (three 0) (nines 8) gives Refused 2 0
+row Mark.open_not_sound = Input.open_pairs (three 0) unsound gives Refused 3 0
+row Mark.open_overcounted = Input.open_pairs (three 1) p2 gives Refused 4 0
+row Mark.tell_129_classes =
     Input.tell Kind.told (session_of 129 5) [] (under 0 0) gives (replied 1 0 (session_of 129 5), [])
-row Mark.tell-overcounted-first = Input.tell Kind.told (three 1) p2 (under 0 3) gives (replied 4 0 (three 1), p2)
-row Mark.tell-lower-beyond = Input.tell Kind.told (three 0) p2 (under 3 0) gives (replied 5 0 (three 0), p2)
-row Mark.tell-upper-beyond = Input.tell Kind.told (three 0) p2 (under 0 3) gives (replied 5 0 (three 0), p2)
+row Mark.tell_overcounted_first = Input.tell Kind.told (three 1) p2 (under 0 3) gives (replied 4 0 (three 1), p2)
+row Mark.tell_lower_beyond = Input.tell Kind.told (three 0) p2 (under 3 0) gives (replied 5 0 (three 0), p2)
+row Mark.tell_upper_beyond = Input.tell Kind.told (three 0) p2 (under 0 3) gives (replied 5 0 (three 0), p2)
 row Mark.tell_contradicts_beyond = Input.tell Kind.told (three 0) p4 (under 0 5) gives (replied 5 0 (three 0), p4)
 -- buffers that just fit, and one byte less; the order of refusals
-row Mark.hierarchy-short-steps = Input.hierarchy four p11 (nines 4) (nines 7) gives (Refused 8 0, (nines 4, nines 7))
-row Mark.hierarchy-short-heads = Input.hierarchy four p11 (nines 3) (nines 8) gives (Refused 8 0, (nines 3, nines 8))
-row Mark.hierarchy-open-first = Input.hierarchy (three 0) p7 [] [] gives (Refused 7 0, ([], []))
+row Mark.hierarchy_short_steps = Input.hierarchy four p11 (nines 4) (nines 7) gives (Refused 8 0, (nines 4, nines 7))
+row Mark.hierarchy_short_heads = Input.hierarchy four p11 (nines 3) (nines 8) gives (Refused 8 0, (nines 3, nines 8))
+row Mark.hierarchy_open_first = Input.hierarchy (three 0) p7 [] [] gives (Refused 7 0, ([], []))
 row Mark.hierarchy_open =
     Input.hierarchy (started 2) one_open (nines 2) (nines 2) gives (Refused 7 0, (nines 2, nines 2))
 row Mark.ladder_short = Input.ladder four p11 0 3 (nines 2) gives (Refused 8 0, nines 2)
 row Mark.ladder_fits = Input.ladder four p11 0 2 (nines 2) gives (Count 2, 0 ∷ 2 ∷ [])
 row Mark.ladder_equal = Input.ladder (three 0) p8 2 1 (nines 2) gives (Count 1, 1 ∷ 9 ∷ [])
-row Mark.ladder-beyond-first = Input.ladder (three 0) p7 3 0 [] gives (Refused 5 0, [])
-row Mark.ladder-upper-beyond = Input.ladder (three 0) p8 0 3 (nines 3) gives (Refused 5 0, nines 3)
-row Mark.ladder-open-first = Input.ladder (three 0) p7 2 0 [] gives (Refused 7 0, [])
-row Mark.ladder-open-short = Input.ladder (three 0) p7 0 1 [] gives (Refused 7 0, [])
+row Mark.ladder_beyond_first = Input.ladder (three 0) p7 3 0 [] gives (Refused 5 0, [])
+row Mark.ladder_upper_beyond = Input.ladder (three 0) p8 0 3 (nines 3) gives (Refused 5 0, nines 3)
+row Mark.ladder_open_first = Input.ladder (three 0) p7 2 0 [] gives (Refused 7 0, [])
+row Mark.ladder_open_short = Input.ladder (three 0) p7 0 1 [] gives (Refused 7 0, [])
 row Mark.ladder_open = Input.ladder (started 2) one_open 0 0 (nines 2) gives (Refused 7 0, nines 2)
-row Mark.write-short = Input.write (three 0) p8 (nines 21) gives (Refused 8 0, nines 21)
-row Mark.write-one-class =
+row Mark.write_short = Input.write (three 0) p8 (nines 21) gives (Refused 8 0, nines 21)
+row Mark.write_one_class =
     Input.write (started 1) (1 ∷ []) (nines 11) gives (Count 10, 1 ∷ 0 ∷ 1 ∷ 1 ∷ 2 ∷ 0 ∷ 0 ∷ 3 ∷ 0 ∷ 0 ∷ 9 ∷ [])
 -- pairs that are open are no refusal, and not in the book
-row Mark.write-open =
+row Mark.write_open =
     Input.write (three 0) p7 (nines 19)
     gives (Count 18, 1 ∷ 0 ∷ 1 ∷ 3 ∷ 2 ∷ 0 ∷ 6 ∷ 0 ∷ 1 ∷ 0 ∷ 2 ∷ 1 ∷ 2 ∷ 3 ∷ 0 ∷ 2 ∷ 2 ∷ 0 ∷ 9 ∷ [])
 -- 01's printed example, whole and without its last six bytes
-row Mark.example-read = book example gives (replied 0 0 (three 1), p8)
-row Mark.example-cut-read = book_of_three (2 ∷ 0 ∷ 6 ∷ 0 ∷ 1 ∷ 1 ∷ 2 ∷ 2 ∷ 1 ∷ [])
+row Mark.example_read = book example gives (replied 0 0 (three 1), p8)
+row Mark.example_cut_read = book_of_three (2 ∷ 0 ∷ 6 ∷ 0 ∷ 1 ∷ 1 ∷ 2 ∷ 2 ∷ 1 ∷ [])
     gives (replied 0 0 (three 0), printed)
-row Mark.example-cut-open = Input.open_pairs (three 0) printed gives Count 2
-row Mark.example-cut-asks = Input.next (three 0) printed gives Ask 1 0
+row Mark.example_cut_open = Input.open_pairs (three 0) printed gives Count 2
+row Mark.example_cut_asks = Input.next (three 0) printed gives Ask 1 0
 -- books refused at their first field
-row Mark.book-empty = book [] gives unbegun 12
-row Mark.book-cut-head = book (1 ∷ 0 ∷ []) gives unbegun 10
-row Mark.book-cut-head-first = book (7 ∷ []) gives unbegun 10
-row Mark.book-unknown-tag = book (7 ∷ 0 ∷ 0 ∷ []) gives unbegun 11
-row Mark.book-tag-zero = book (0 ∷ 0 ∷ 0 ∷ []) gives unbegun 11
-row Mark.book-misplaced = book (2 ∷ 0 ∷ 0 ∷ []) gives unbegun 12
-row Mark.book-misplaced-first = book (2 ∷ 0 ∷ 3 ∷ []) gives unbegun 12
-row Mark.book-two-counts = book (1 ∷ 0 ∷ 2 ∷ 3 ∷ 3 ∷ []) gives unbegun 13
-row Mark.book-length-first = book (1 ∷ 0 ∷ 5 ∷ []) gives unbegun 13
-row Mark.book-no-count = book (1 ∷ 0 ∷ 0 ∷ []) gives unbegun 13
-row Mark.book-cut-contents = book (1 ∷ 0 ∷ 1 ∷ []) gives unbegun 10
-row Mark.book-no-class = book (1 ∷ 0 ∷ 1 ∷ 0 ∷ []) gives unbegun 1
-row Mark.book-129-classes = book (1 ∷ 0 ∷ 1 ∷ 129 ∷ []) gives unbegun 1
-row Mark.book-short-table = Input.read (1 ∷ 0 ∷ 1 ∷ 3 ∷ []) (nines 8) gives (replied 2 0 nothing, nines 8)
+row Mark.book_empty = book [] gives unbegun 12
+row Mark.book_cut_head = book (1 ∷ 0 ∷ []) gives unbegun 10
+row Mark.book_cut_head_first = book (7 ∷ []) gives unbegun 10
+row Mark.book_unknown_tag = book (7 ∷ 0 ∷ 0 ∷ []) gives unbegun 11
+row Mark.book_tag_zero = book (0 ∷ 0 ∷ 0 ∷ []) gives unbegun 11
+row Mark.book_misplaced = book (2 ∷ 0 ∷ 0 ∷ []) gives unbegun 12
+row Mark.book_misplaced_first = book (2 ∷ 0 ∷ 3 ∷ []) gives unbegun 12
+row Mark.book_two_counts = book (1 ∷ 0 ∷ 2 ∷ 3 ∷ 3 ∷ []) gives unbegun 13
+row Mark.book_length_first = book (1 ∷ 0 ∷ 5 ∷ []) gives unbegun 13
+row Mark.book_no_count = book (1 ∷ 0 ∷ 0 ∷ []) gives unbegun 13
+row Mark.book_cut_contents = book (1 ∷ 0 ∷ 1 ∷ []) gives unbegun 10
+row Mark.book_no_class = book (1 ∷ 0 ∷ 1 ∷ 0 ∷ []) gives unbegun 1
+row Mark.book_129_classes = book (1 ∷ 0 ∷ 1 ∷ 129 ∷ []) gives unbegun 1
+row Mark.book_short_table = Input.read (1 ∷ 0 ∷ 1 ∷ 3 ∷ []) (nines 8) gives (replied 2 0 nothing, nines 8)
 -- books refused later: what was read before the place stays
-row Mark.book-count-alone = book_of_three [] gives (replied 0 0 (three 0), p2)
-row Mark.later-cut-head = book_of_three (1 ∷ []) gives (replied 10 4 (three 0), p2)
-row Mark.later-cut-length = book_of_three (2 ∷ 0 ∷ []) gives (replied 10 4 (three 0), p2)
-row Mark.later-unknown-tag = book_of_three (9 ∷ 0 ∷ 0 ∷ []) gives (replied 11 4 (three 0), p2)
-row Mark.later-tag-zero = book_of_three (0 ∷ 0 ∷ 0 ∷ []) gives (replied 11 4 (three 0), p2)
-row Mark.later-tag-five = book_of_three (5 ∷ 0 ∷ 0 ∷ []) gives (replied 11 4 (three 0), p2)
-row Mark.later-second-count = book_of_three (1 ∷ 0 ∷ 7 ∷ []) gives (replied 12 4 (three 0), p2)
-row Mark.later-yes-length = book_of_three (2 ∷ 0 ∷ 5 ∷ 0 ∷ []) gives (replied 13 4 (three 0), p2)
-row Mark.later-no-length = book_of_three (3 ∷ 0 ∷ 1 ∷ 0 ∷ []) gives (replied 13 4 (three 0), p2)
-row Mark.later-answers-length = book_of_three (4 ∷ 0 ∷ 2 ∷ 0 ∷ 1 ∷ []) gives (replied 13 4 (three 0), p2)
-row Mark.later-cut-contents = book_of_three (2 ∷ 0 ∷ 4 ∷ 0 ∷ 1 ∷ 1 ∷ []) gives (replied 10 4 (three 0), p2)
-row Mark.later-long-length = book_of_three (2 ∷ 1 ∷ 0 ∷ []) gives (replied 10 4 (three 0), p2)
-row Mark.later-verdict = book_of_three (4 ∷ 0 ∷ 3 ∷ 1 ∷ 0 ∷ 2 ∷ []) gives (replied 14 7 (three 0), p2)
-row Mark.later-verdict-first = book_of_three (4 ∷ 0 ∷ 3 ∷ 3 ∷ 0 ∷ 2 ∷ []) gives (replied 14 7 (three 0), p2)
-row Mark.later-class-beyond = book_of_three (4 ∷ 0 ∷ 6 ∷ 3 ∷ 0 ∷ 1 ∷ 0 ∷ 1 ∷ 2 ∷ []) gives (replied 5 7 (three 0), p2)
-row Mark.later-second-verdict =
+row Mark.book_count_alone = book_of_three [] gives (replied 0 0 (three 0), p2)
+row Mark.later_cut_head = book_of_three (1 ∷ []) gives (replied 10 4 (three 0), p2)
+row Mark.later_cut_length = book_of_three (2 ∷ 0 ∷ []) gives (replied 10 4 (three 0), p2)
+row Mark.later_unknown_tag = book_of_three (9 ∷ 0 ∷ 0 ∷ []) gives (replied 11 4 (three 0), p2)
+row Mark.later_tag_zero = book_of_three (0 ∷ 0 ∷ 0 ∷ []) gives (replied 11 4 (three 0), p2)
+row Mark.later_tag_five = book_of_three (5 ∷ 0 ∷ 0 ∷ []) gives (replied 11 4 (three 0), p2)
+row Mark.later_second_count = book_of_three (1 ∷ 0 ∷ 7 ∷ []) gives (replied 12 4 (three 0), p2)
+row Mark.later_yes_length = book_of_three (2 ∷ 0 ∷ 5 ∷ 0 ∷ []) gives (replied 13 4 (three 0), p2)
+row Mark.later_no_length = book_of_three (3 ∷ 0 ∷ 1 ∷ 0 ∷ []) gives (replied 13 4 (three 0), p2)
+row Mark.later_answers_length = book_of_three (4 ∷ 0 ∷ 2 ∷ 0 ∷ 1 ∷ []) gives (replied 13 4 (three 0), p2)
+row Mark.later_cut_contents = book_of_three (2 ∷ 0 ∷ 4 ∷ 0 ∷ 1 ∷ 1 ∷ []) gives (replied 10 4 (three 0), p2)
+row Mark.later_long_length = book_of_three (2 ∷ 1 ∷ 0 ∷ []) gives (replied 10 4 (three 0), p2)
+row Mark.later_verdict = book_of_three (4 ∷ 0 ∷ 3 ∷ 1 ∷ 0 ∷ 2 ∷ []) gives (replied 14 7 (three 0), p2)
+row Mark.later_verdict_first = book_of_three (4 ∷ 0 ∷ 3 ∷ 3 ∷ 0 ∷ 2 ∷ []) gives (replied 14 7 (three 0), p2)
+row Mark.later_class_beyond = book_of_three (4 ∷ 0 ∷ 6 ∷ 3 ∷ 0 ∷ 1 ∷ 0 ∷ 1 ∷ 2 ∷ []) gives (replied 5 7 (three 0), p2)
+row Mark.later_second_verdict =
     book_of_three (4 ∷ 0 ∷ 6 ∷ 0 ∷ 1 ∷ 0 ∷ 0 ∷ 1 ∷ 2 ∷ []) gives (replied 14 10 (three 1), after_no)
-row Mark.later-contradicts =
+row Mark.later_contradicts =
     book_of_three (3 ∷ 0 ∷ 2 ∷ 0 ∷ 1 ∷ 2 ∷ 0 ∷ 2 ∷ 0 ∷ 1 ∷ []) gives (replied 6 12 (three 0), after_no)
-row Mark.later-far =
+row Mark.later_far =
     Input.read (1 ∷ 0 ∷ 1 ∷ 1 ∷ empty_fields 21 (9 ∷ 0 ∷ 0 ∷ [])) (nines 1) gives (replied 11 67 (started 1), 1 ∷ [])
 -- fields of answers: none, and three of which one is on a settled pair
-row Mark.book-no-answers = book_of_three (4 ∷ 0 ∷ 0 ∷ []) gives (replied 0 0 (three 0), p2)
-row Mark.book-answers =
+row Mark.book_no_answers = book_of_three (4 ∷ 0 ∷ 0 ∷ []) gives (replied 0 0 (three 0), p2)
+row Mark.book_answers =
     book_of_three (4 ∷ 0 ∷ 9 ∷ 0 ∷ 1 ∷ 1 ∷ 0 ∷ 2 ∷ 0 ∷ 1 ∷ 1 ∷ 1 ∷ []) gives (replied 0 0 (three 2), p4)
 -- clips: the pairs of a member and a non_member, and no other; not counted
-row Mark.clip-of-two = Input.clip (three 0) after_yes first_two gives (replied 0 0 (three 0), p4)
-row Mark.clip-of-second =
+row Mark.clip_of_two = Input.clip (three 0) after_yes first_two gives (replied 0 0 (three 0), p4)
+row Mark.clip_of_second =
     Input.clip (three 0) after_yes (false ∷ true ∷ [])
     gives (replied 0 0 (three 0), 1 ∷ 1 ∷ 0 ∷ 2 ∷ 1 ∷ 2 ∷ 0 ∷ 0 ∷ 1 ∷ [])
-row Mark.clip-of-one =
+row Mark.clip_of_one =
     Input.clip (three 0) p2 first_one gives (replied 0 0 (three 0), 1 ∷ 2 ∷ 2 ∷ 0 ∷ 1 ∷ 0 ∷ 0 ∷ 0 ∷ 1 ∷ [])
-row Mark.clip-rest-kept =
+row Mark.clip_rest_kept =
     Input.clip (three 0) (1 ∷ 0 ∷ 0 ∷ 0 ∷ 1 ∷ 0 ∷ 0 ∷ 0 ∷ 1 ∷ 9 ∷ []) first_two
     gives (replied 0 0 (three 0), 1 ∷ 0 ∷ 2 ∷ 0 ∷ 1 ∷ 2 ∷ 0 ∷ 0 ∷ 1 ∷ 9 ∷ [])
 -- the clips of no class and of all
 row Mark.clip_of_none = Input.clip (three 0) after_yes [] gives (replied 0 0 (three 0), after_yes)
 row Mark.clip_of_all = Input.clip (three 0) after_yes (true ∷ true ∷ true ∷ []) gives (replied 0 0 (three 0), after_yes)
 -- one no contradicts: the first, and a later one, when those before it are not written
-row Mark.clip-first-contradicts = Input.clip (three 0) after_yes first_one gives (replied 6 0 (three 0), after_yes)
-row Mark.clip-later-contradicts = Input.clip (three 0) one_under_two first_two
+row Mark.clip_first_contradicts = Input.clip (three 0) after_yes first_one gives (replied 6 0 (three 0), after_yes)
+row Mark.clip_later_contradicts = Input.clip (three 0) one_under_two first_two
     gives (replied 6 0 (three 0), one_under_two)
 -- a class of n or more, and the order of refusals
 row Mark.clip_beyond =
     Input.clip (three 0) after_yes (true ∷ true ∷ false ∷ true ∷ []) gives (replied 5 0 (three 0), after_yes)
-row Mark.clip-beyond-first = Input.clip (three 0) after_yes first_and_fourth gives (replied 5 0 (three 0), after_yes)
-row Mark.clip-overcounted-first = Input.clip (three 1) p2 first_and_fourth gives (replied 4 0 (three 1), p2)
-row Mark.clip-not-sound-first = Input.clip (three 1) unsound first_one gives (replied 3 0 (three 1), unsound)
-row Mark.clip-short-table = Input.clip (three 1) (nines 8) first_one gives (replied 2 0 (three 1), nines 8)
-row Mark.clip-129-classes = Input.clip (started 129) [] (true ∷ []) gives (replied 1 0 (started 129), [])
+row Mark.clip_beyond_first = Input.clip (three 0) after_yes first_and_fourth gives (replied 5 0 (three 0), after_yes)
+row Mark.clip_overcounted_first = Input.clip (three 1) p2 first_and_fourth gives (replied 4 0 (three 1), p2)
+row Mark.clip_not_sound_first = Input.clip (three 1) unsound first_one gives (replied 3 0 (three 1), unsound)
+row Mark.clip_short_table = Input.clip (three 1) (nines 8) first_one gives (replied 2 0 (three 1), nines 8)
+row Mark.clip_129_classes = Input.clip (started 129) [] (true ∷ []) gives (replied 1 0 (started 129), [])
 -- a clip with a byte a flag: a byte that is not 0 is a flag that is set; a flag for each class, and none of 128 or more
-row Mark.bytes-of-two = Input.clip_bytes (three 0) after_yes (1 ∷ 7 ∷ 0 ∷ []) gives (replied 0 0 (three 0), p4)
-row Mark.bytes-more-flags = Input.clip_bytes (three 0) after_yes (1 ∷ 7 ∷ 0 ∷ 0 ∷ []) gives (replied 0 0 (three 0), p4)
-row Mark.bytes-too-few = Input.clip_bytes (three 0) after_yes (1 ∷ 1 ∷ []) gives (replied 5 0 (three 0), after_yes)
-row Mark.bytes-most-flags = Input.clip_bytes (three 0) after_yes (1 ∷ 1 ∷ times 126 0) gives (replied 0 0 (three 0), p4)
-row Mark.bytes-too-many =
+row Mark.bytes_of_two = Input.clip_bytes (three 0) after_yes (1 ∷ 7 ∷ 0 ∷ []) gives (replied 0 0 (three 0), p4)
+row Mark.bytes_more_flags = Input.clip_bytes (three 0) after_yes (1 ∷ 7 ∷ 0 ∷ 0 ∷ []) gives (replied 0 0 (three 0), p4)
+row Mark.bytes_too_few = Input.clip_bytes (three 0) after_yes (1 ∷ 1 ∷ []) gives (replied 5 0 (three 0), after_yes)
+row Mark.bytes_most_flags = Input.clip_bytes (three 0) after_yes (1 ∷ 1 ∷ times 126 0) gives (replied 0 0 (three 0), p4)
+row Mark.bytes_too_many =
     Input.clip_bytes (three 0) after_yes (1 ∷ 1 ∷ times 127 0) gives (replied 5 0 (three 0), after_yes)
-row Mark.bytes-beyond = Input.clip_bytes (three 0) after_yes (1 ∷ 1 ∷ 0 ∷ 1 ∷ [])
+row Mark.bytes_beyond = Input.clip_bytes (three 0) after_yes (1 ∷ 1 ∷ 0 ∷ 1 ∷ [])
     gives (replied 5 0 (three 0), after_yes)
-row Mark.bytes-contradict = Input.clip_bytes (three 0) after_yes (1 ∷ 0 ∷ 0 ∷ [])
+row Mark.bytes_contradict = Input.clip_bytes (three 0) after_yes (1 ∷ 0 ∷ 0 ∷ [])
     gives (replied 6 0 (three 0), after_yes)
 row Mark.bytes_overcounted_first = Input.clip_bytes (three 1) p2 (1 ∷ []) gives (replied 4 0 (three 1), p2)
 -- what C sees
-row Mark.C-asks = Input.next_for_c (three 0) p7 gives asked_for_c 0 0 true 1 0
-row Mark.C-done = Input.next_for_c (three 0) p8 gives asked_for_c 0 0 false 0 0
-row Mark.C-next-refused = Input.next_for_c (three 1) p2 gives asked_for_c 4 0 false 0 0
-row Mark.C-open = Input.openPairsForC (three 0) p7 gives counted_for_c 0 0 2
-row Mark.C-open-refused = Input.openPairsForC (three 0) unsound gives counted_for_c 3 0 0
-row Mark.C-hierarchy =
-    Input.hierarchyForC (three 0) p8 (nines 4) (nines 3)
+row Mark.c_asks = Input.next_for_c (three 0) p7 gives asked_for_c 0 0 true 1 0
+row Mark.c_done = Input.next_for_c (three 0) p8 gives asked_for_c 0 0 false 0 0
+row Mark.c_next_refused = Input.next_for_c (three 1) p2 gives asked_for_c 4 0 false 0 0
+row Mark.c_open = Input.open_pairs_for_c (three 0) p7 gives counted_for_c 0 0 2
+row Mark.c_open_refused = Input.open_pairs_for_c (three 0) unsound gives counted_for_c 3 0 0
+row Mark.c_hierarchy =
+    Input.hierarchy_for_c (three 0) p8 (nines 4) (nines 3)
     gives (counted_for_c 0 0 1, (0 ∷ 1 ∷ 1 ∷ 9 ∷ [], 0 ∷ 1 ∷ 9 ∷ []))
-row Mark.C-hierarchy-refused =
-    Input.hierarchyForC four p11 (nines 4) (nines 7) gives (counted_for_c 8 0 0, (nines 4, nines 7))
-row Mark.C-ladder = Input.ladderForC four p11 0 3 (nines 4) gives (counted_for_c 0 0 3, 0 ∷ 1 ∷ 3 ∷ 9 ∷ [])
-row Mark.C-ladder-refused = Input.ladderForC four p11 0 3 (nines 2) gives (counted_for_c 8 0 0, nines 2)
-row Mark.C-write = Input.writeForC (three 0) p8 (nines 22) gives (counted_for_c 0 0 22, p12)
-row Mark.C-write-refused = Input.writeForC (three 0) p8 (nines 21) gives (counted_for_c 8 0 0, nines 21)
+row Mark.c_hierarchy_refused =
+    Input.hierarchy_for_c four p11 (nines 4) (nines 7) gives (counted_for_c 8 0 0, (nines 4, nines 7))
+row Mark.c_ladder = Input.ladder_for_c four p11 0 3 (nines 4) gives (counted_for_c 0 0 3, 0 ∷ 1 ∷ 3 ∷ 9 ∷ [])
+row Mark.c_ladder_refused = Input.ladder_for_c four p11 0 3 (nines 2) gives (counted_for_c 8 0 0, nines 2)
+row Mark.c_write = Input.write_for_c (three 0) p8 (nines 22) gives (counted_for_c 0 0 22, p12)
+row Mark.c_write_refused = Input.write_for_c (three 0) p8 (nines 21) gives (counted_for_c 8 0 0, nines 21)

@@ -103,8 +103,8 @@ fresh_contract = of_call {I = ℕ × List ℕ} (λ i. fresh i.0 i.1) (λ i o o�
 
 pub fresh_rejects : Rejected fresh_contract (λ o. o.0) (λ i o. o.1 ≡ i.1)
 fresh_rejects =
-    rejected fresh_contract (1, nines 2) (0, nines 1) (met Mark.P1-fresh) refl (λ e. omega (arith, ap (byte 0) e))
-    (met Mark.fresh-no-class) (λ e. omega (arith, ap number_of e))
+    rejected fresh_contract (1, nines 2) (0, nines 1) (met Mark.p1_fresh) refl (λ e. omega (arith, ap (byte 0) e))
+    (met Mark.fresh_no_class) (λ e. omega (arith, ap number_of e))
 
 -- tell and answer
 
@@ -114,7 +114,7 @@ tell_contract kind =
 
 pub tell_rejects : Rejected (tell_contract Kind.told) (λ o. o.0) (λ i o. o.1 ≡ i.1)
 tell_rejects =
-    rejected (tell_contract Kind.told) (three 0, p3, under 0 1) (three 0, p4, under 1 2) (met Mark.P4-told) refl
+    rejected (tell_contract Kind.told) (three 0, p3, under 0 1) (three 0, p4, under 1 2) (met Mark.p4_told) refl
     (λ e. omega (arith, ap (byte 1) e)) (met Mark.p5_refused) (λ e. omega (arith, ap number_of e))
 
 -- Storing a fact on a table that is not fresh, and nothing more.
@@ -136,22 +136,22 @@ not_stores kind owed e =
     omega (arith, ap (byte 5) (stores not_fresh e)))
 
 pub tell_not_stores : Never (tell_contract Kind.told) MerelyStores
-tell_not_stores = not_stores Kind.told (met Mark.P4-told) refl
+tell_not_stores = not_stores Kind.told (met Mark.p4_told) refl
 
 pub answer_not_stores : Never (tell_contract Kind.answered) MerelyStores
-answer_not_stores = not_stores Kind.answered (met Mark.answer-draws) refl
+answer_not_stores = not_stores Kind.answered (met Mark.answer_draws) refl
 
 -- an answer on an open pair, and one on a settled pair: the tally is no constant, 0 or any other
 pub answer_rejects : Rejected (tell_contract Kind.answered) (λ o. o.0.session.tests) (λ i o. o.1 ≡ i.1)
 answer_rejects =
-    rejected (tell_contract Kind.answered) (three 0, p7, under 2 1) (three 0, p2, under 1 1) (met Mark.answer-open) refl
+    rejected (tell_contract Kind.answered) (three 0, p7, under 2 1) (three 0, p2, under 1 1) (met Mark.answer_open) refl
     (λ e. omega (arith, ap (byte 3) e)) (met Mark.p10_answered) (λ e. omega arith)
 
 -- an answer that never counts, one that counts every accepted fact, one that counts refused ones
 pub answer_counts : Never (tell_contract Kind.answered) (λ i o. o.0.session.tests ≡ i.0.tests)
 answer_counts =
     never (tell_contract Kind.answered) (λ i o. o.0.session.tests ≡ i.0.tests) (three 0, p7, under 2 1)
-    (met Mark.answer-open) (λ e. omega arith)
+    (met Mark.answer_open) (λ e. omega arith)
 
 -- the tally grows by one where the number is k
 abbrev pub CountsAt : ℕ → Session × List ℕ × Fact → Reply × List ℕ → Type 0
@@ -164,7 +164,7 @@ answer_counts_open =
 
 pub answer_counts_accepted : Never (tell_contract Kind.answered) (CountsAt 6)
 answer_counts_accepted =
-    never (tell_contract Kind.answered) (CountsAt 6) (three 0, p4, under 1 2) (met Mark.answer-refused)
+    never (tell_contract Kind.answered) (CountsAt 6) (three 0, p4, under 1 2) (met Mark.answer_refused)
     (λ e. omega (arith, e refl))
 
 -- clip
@@ -174,8 +174,8 @@ clip_contract = of_call {I = Session × List ℕ × List Bool} (λ i. clip i.0 i
 
 pub clip_rejects : Rejected clip_contract (λ o. o.0) (λ i o. o.1 ≡ i.1)
 clip_rejects =
-    rejected clip_contract (three 0, after_yes, first_two) (three 0, after_yes, first_one) (met Mark.clip-of-two) refl
-    (λ e. omega (arith, ap (byte 2) e)) (met Mark.clip-first-contradicts) (λ e. omega (arith, ap number_of e))
+    rejected clip_contract (three 0, after_yes, first_two) (three 0, after_yes, first_one) (met Mark.clip_of_two) refl
+    (λ e. omega (arith, ap (byte 2) e)) (met Mark.clip_first_contradicts) (λ e. omega (arith, ap number_of e))
 
 -- Noes told one by one in row order up to the first that contradicts, and left written.
 abbrev pub TakesInPart : Session × List ℕ × List Bool → Reply × List ℕ → Type 0
@@ -189,7 +189,7 @@ TakesInPart i o =
 pub clip_not_in_part : Never clip_contract TakesInPart
 unfolding mark
 clip_not_in_part =
-    never clip_contract TakesInPart (three 0, one_under_two, first_two) (met Mark.clip-later-contradicts) (λ h.
+    never clip_contract TakesInPart (three 0, one_under_two, first_two) (met Mark.clip_later_contradicts) (λ h.
     omega (arith, (h refl (not_under 0 2) said (λ g. later g.lower g.upper g.holds)).settled))
   where
     said : ClipNo 3 first_two (not_under 0 2)
@@ -219,7 +219,7 @@ bytes_contract = of_call {I = Session × List ℕ × List ℕ} (λ i. clip_bytes
 pub bytes_rejects : Rejected bytes_contract (λ o. o.0) (λ i o. o.1 ≡ i.1)
 bytes_rejects =
     rejected bytes_contract (three 0, after_yes, 1 ∷ 7 ∷ 0 ∷ []) (three 0, after_yes, 1 ∷ 0 ∷ 0 ∷ [])
-    (met Mark.bytes-of-two) refl (λ e. omega (arith, ap (byte 2) e)) (met Mark.bytes-contradict)
+    (met Mark.bytes_of_two) refl (λ e. omega (arith, ap (byte 2) e)) (met Mark.bytes_contradict)
     (λ e. omega (arith, ap number_of e))
 
 -- next: one that always says done is idle
@@ -228,7 +228,7 @@ abbrev pub next_contract : Contract
 next_contract = of_call {I = Session × List ℕ} (λ i. next i.0 i.1) (λ i o o₂. next_unique i.0 i.1)
 
 pub next_rejects : Rejected next_contract (λ q. q) (λ i q. q ≡ Done)
-next_rejects = rejected next_contract (three 0, p2) (three 0, p8) (met Mark.P2-asks) refl asks (met Mark.P8-done) asks
+next_rejects = rejected next_contract (three 0, p2) (three 0, p8) (met Mark.p2_asks) refl asks (met Mark.p8_done) asks
   where
     asks : Ask 0 1 ≢ Done
     asks e = let z : ◌≡◌ {A = ℕ} 0 1 = cc in omega arith
@@ -241,7 +241,7 @@ open_pairs_contract =
 
 pub open_pairs_rejects : Rejected open_pairs_contract (λ r. r) (λ i r. r ≡ Count 0)
 open_pairs_rejects =
-    rejected open_pairs_contract (three 0, p2) (three 0, p8) (met Mark.P2-open) refl some (met Mark.P8-open) some
+    rejected open_pairs_contract (three 0, p2) (three 0, p8) (met Mark.p2_open) refl some (met Mark.p8_open) some
   where
     some : Count 6 ≢ Count 0
     some e = let z : ◌≡◌ {A = ℕ} 6 0 = cc in omega arith
@@ -255,9 +255,9 @@ hierarchy_contract =
 
 pub hierarchy_rejects : Rejected hierarchy_contract (λ o. o.0) (λ i o. (o.1.0 ≡ i.2) ⊎ (o.1.1 ≡ i.3))
 hierarchy_rejects =
-    rejected hierarchy_contract (three 0, p8, nines 4, nines 3) (four, p11, nines 4, nines 7) (met Mark.P8-hierarchy)
+    rejected hierarchy_contract (three 0, p8, nines 4, nines 3) (four, p11, nines 4, nines 7) (met Mark.p8_hierarchy)
     refl (⊎_elim (λ e. omega (arith, ap (byte 0) e)) (λ e. omega (arith, ap (byte 0) e)))
-    (met Mark.hierarchy-short-steps)
+    (met Mark.hierarchy_short_steps)
     (λ e. omega (arith, ap count_number e))
 
 -- ladder
@@ -269,8 +269,8 @@ ladder_contract =
 
 pub ladder_rejects : Rejected ladder_contract (λ o. o.0) (λ i o. o.1 ≡ i.4)
 ladder_rejects =
-    rejected ladder_contract (four, p11, 0, 3, nines 3) (four, p11, 1, 2, nines 3) (met Mark.P11-ladder) refl
-    (λ e. omega (arith, ap (byte 0) e)) (met Mark.P11-not-under) (λ e. omega (arith, ap count_number e))
+    rejected ladder_contract (four, p11, 0, 3, nines 3) (four, p11, 1, 2, nines 3) (met Mark.p11_ladder) refl
+    (λ e. omega (arith, ap (byte 0) e)) (met Mark.p11_not_under) (λ e. omega (arith, ap count_number e))
 
 -- read
 
@@ -286,13 +286,13 @@ read_contract =
 
 pub read_rejects : Rejected read_contract (λ o. o.0) (λ i o. o.1 ≡ i.1)
 read_rejects =
-    rejected read_contract (p12, nines 9) ([], nines 9) (met Mark.P12-read) refl (λ e. omega (arith, ap (byte 0) e))
-    (met Mark.book-empty) (λ e. omega (arith, ap number_of e))
+    rejected read_contract (p12, nines 9) ([], nines 9) (met Mark.p12_read) refl (λ e. omega (arith, ap (byte 0) e))
+    (met Mark.book_empty) (λ e. omega (arith, ap number_of e))
 
 -- a reading that keeps the tally at 0, at 01's printed example
 pub read_counts : Never read_contract (λ i o. o.0.session.tests ≡ 0)
 read_counts =
-    never read_contract (λ i o. o.0.session.tests ≡ 0) (example, nines 9) (met Mark.example-read) (λ e. omega arith)
+    never read_contract (λ i o. o.0.session.tests ≡ 0) (example, nines 9) (met Mark.example_read) (λ e. omega arith)
 
 -- write
 
@@ -303,63 +303,63 @@ write_contract =
 
 pub write_rejects : Rejected write_contract (λ o. o.0) (λ i o. o.1 ≡ i.2)
 write_rejects =
-    rejected write_contract (three 0, p8, nines 22) (three 0, p8, nines 21) (met Mark.P12-written) refl
-    (λ e. omega (arith, ap (byte 0) e)) (met Mark.write-short) (λ e. omega (arith, ap count_number e))
+    rejected write_contract (three 0, p8, nines 22) (three 0, p8, nines 21) (met Mark.p12_written) refl
+    (λ e. omega (arith, ap (byte 0) e)) (met Mark.write_short) (λ e. omega (arith, ap count_number e))
 
 -- The calls whose answers cross to C. One that never asks is idle, and so is one that always counts no open pair.
 
 abbrev number_for_c : CrossedCount → ℕ
 number_for_c r = r.number
 
-abbrev pub next_for_ccontract : Contract
-next_for_ccontract =
+abbrev pub next_for_c_contract : Contract
+next_for_c_contract =
     of_call {I = Session × List ℕ} (λ i. next_for_c i.0 i.1) (λ i o o₂. next_for_c_unique i.0 i.1)
 
-pub next_for_c_rejects : Rejected next_for_ccontract (λ q. q) (λ i q. q.asks ≡ false)
+pub next_for_c_rejects : Rejected next_for_c_contract (λ q. q) (λ i q. q.asks ≡ false)
 next_for_c_rejects =
-    rejected next_for_ccontract (three 0, p7) (three 0, p8) (met Mark.C-asks) refl yes_not_no (met Mark.C-done)
+    rejected next_for_c_contract (three 0, p7) (three 0, p8) (met Mark.c_asks) refl yes_not_no (met Mark.c_done)
     (λ e. yes_not_no (ap (λ (q : CrossedQuestion). q.asks) e))
 
-abbrev pub open_pairs_for_ccontract : Contract
-open_pairs_for_ccontract =
+abbrev pub open_pairs_for_c_contract : Contract
+open_pairs_for_c_contract =
     of_call {I = Session × List ℕ} (λ i. count_for_c (open_pairs i.0 i.1))
     (λ i o o₂. open_pairs_for_c_unique i.0 i.1)
 
-pub open_pairs_for_c_rejects : Rejected open_pairs_for_ccontract (λ r. r) (λ i r. r.count ≡ 0)
+pub open_pairs_for_c_rejects : Rejected open_pairs_for_c_contract (λ r. r) (λ i r. r.count ≡ 0)
 open_pairs_for_c_rejects =
-    rejected open_pairs_for_ccontract (three 0, p7) (three 0, unsound) (met Mark.C-open) refl (λ e. omega arith)
-    (met Mark.C-open-refused) (λ e. omega (arith, ap number_for_c e))
+    rejected open_pairs_for_c_contract (three 0, p7) (three 0, unsound) (met Mark.c_open) refl (λ e. omega arith)
+    (met Mark.c_open_refused) (λ e. omega (arith, ap number_for_c e))
 
-abbrev pub hierarchy_for_ccontract : Contract
-hierarchy_for_ccontract =
+abbrev pub hierarchy_for_c_contract : Contract
+hierarchy_for_c_contract =
     of_call {I = Session × List ℕ × List ℕ × List ℕ} (λ i. writes_for_c (hierarchy i.0 i.1 i.2 i.3))
     (λ i o o₂. hierarchy_for_c_unique i.0 i.1 i.2 i.3)
 
 pub hierarchy_for_c_rejects :
-    Rejected hierarchy_for_ccontract (λ o. o.0) (λ i o. (o.1.0 ≡ i.2) ⊎ (o.1.1 ≡ i.3))
+    Rejected hierarchy_for_c_contract (λ o. o.0) (λ i o. (o.1.0 ≡ i.2) ⊎ (o.1.1 ≡ i.3))
 hierarchy_for_c_rejects =
-    rejected hierarchy_for_ccontract (three 0, p8, nines 4, nines 3) (four, p11, nines 4, nines 7)
-    (met Mark.C-hierarchy)
+    rejected hierarchy_for_c_contract (three 0, p8, nines 4, nines 3) (four, p11, nines 4, nines 7)
+    (met Mark.c_hierarchy)
     refl (⊎_elim (λ e. omega (arith, ap (byte 0) e)) (λ e. omega (arith, ap (byte 0) e)))
-    (met Mark.C-hierarchy-refused)
+    (met Mark.c_hierarchy_refused)
     (λ e. omega (arith, ap number_for_c e))
 
-abbrev pub ladder_for_ccontract : Contract
-ladder_for_ccontract =
+abbrev pub ladder_for_c_contract : Contract
+ladder_for_c_contract =
     of_call {I = Session × List ℕ × ℕ × ℕ × List ℕ} (λ i. writes_for_c (ladder i.0 i.1 i.2 i.3 i.4))
     (λ i o o₂. ladder_for_c_unique i.0 i.1 i.2 i.3 i.4)
 
-pub ladder_for_c_rejects : Rejected ladder_for_ccontract (λ o. o.0) (λ i o. o.1 ≡ i.4)
+pub ladder_for_c_rejects : Rejected ladder_for_c_contract (λ o. o.0) (λ i o. o.1 ≡ i.4)
 ladder_for_c_rejects =
-    rejected ladder_for_ccontract (four, p11, 0, 3, nines 4) (four, p11, 0, 3, nines 2) (met Mark.C-ladder) refl
-    (λ e. omega (arith, ap (byte 0) e)) (met Mark.C-ladder-refused) (λ e. omega (arith, ap number_for_c e))
+    rejected ladder_for_c_contract (four, p11, 0, 3, nines 4) (four, p11, 0, 3, nines 2) (met Mark.c_ladder) refl
+    (λ e. omega (arith, ap (byte 0) e)) (met Mark.c_ladder_refused) (λ e. omega (arith, ap number_for_c e))
 
-abbrev pub write_for_ccontract : Contract
-write_for_ccontract =
+abbrev pub write_for_c_contract : Contract
+write_for_c_contract =
     of_call {I = Session × List ℕ × List ℕ} (λ i. writes_for_c (write i.0 i.1 i.2))
     (λ i o o₂. write_for_c_unique i.0 i.1 i.2)
 
-pub write_for_c_rejects : Rejected write_for_ccontract (λ o. o.0) (λ i o. o.1 ≡ i.2)
+pub write_for_c_rejects : Rejected write_for_c_contract (λ o. o.0) (λ i o. o.1 ≡ i.2)
 write_for_c_rejects =
-    rejected write_for_ccontract (three 0, p8, nines 22) (three 0, p8, nines 21) (met Mark.C-write) refl
-    (λ e. omega (arith, ap (byte 0) e)) (met Mark.C-write-refused) (λ e. omega (arith, ap number_for_c e))
+    rejected write_for_c_contract (three 0, p8, nines 22) (three 0, p8, nines 21) (met Mark.c_write) refl
+    (λ e. omega (arith, ap (byte 0) e)) (met Mark.c_write_refused) (λ e. omega (arith, ap number_for_c e))
