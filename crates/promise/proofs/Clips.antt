@@ -175,7 +175,7 @@ clip_passed s t played h = let p = standing_passed (clip_refusals s t played) s 
 unfoldable pub clip_there :
     (s : Session) (t : List ℕ) (played : List Bool) → (o : Reply × List ℕ) × Owed (clip s t played) o
 clip_there s t played =
-    changes_there (standing s t (clip_refusals s t played)) s s n (MarksAfterClip s t played) t
+    changes_there (standing s t (clip_refusals s t played)) s _ n (MarksAfterClip s t played) t
     (standing_there (clip_refusals s t played) s t (λ st.
     stage 5 (dec_beyond n played) (λ p₅.
     stage 6 (dec_clip_contradicts n played t) (λ p₆. (0, refl)))))

@@ -1,7 +1,7 @@
 -- Calls that count: two outcomes for one input are equal, there is one, a buffer keeps its length, and calls are alike
 -- that are to write the same, given that what is to be written is fixed and there.
 -- Assumes nothing.
-use mathlib.Core.Path.{◌≡◌, refl, sym, ◌∙◌, ap, subst}
+use mathlib.Core.Path.{◌≡◌, refl, sym, ◌∙◌, ap}
 use mathlib.Core.Logic.{◌↔◌}
 use mathlib.Core.List.{List, [], ◌∷◌, ◌++◌}
 use Prim.Native.Nat.{ℕ, ◌≤◌, ◌<◌}
@@ -34,17 +34,6 @@ over_length P w out p room = go (dec_lt (length out) (length w))
 pub lent_none : (l out : List ℕ) → length l ≡ 0 → l ++ out ≡ out
 lent_none [] out e = refl
 lent_none (x ∷ l) out e = absurd (omega arith)
-
--- whether a buffer is too short, where one list is to be written
-unfoldable pub dec_too_short :
-    (P : List ℕ → Type 0) (w : List ℕ) → P w → ((u v : List ℕ) → P u → P v → u ≡ v) → (out : List ℕ)
-    → Dec (TooShort P out)
-dec_too_short P w p unique out = go (dec_lt (length out) (length w))
-  where
-    go : Dec (length out < length w) → Dec (TooShort P out)
-    go (yes h) = yes (w, p, h)
-    go (no h) =
-        no (λ z. h (subst (λ (u : List ℕ). length out < length u) (unique z.0 w z.1 p) z.2))
 
 module _ (refusals : List Condition) (P : List ℕ → Type 0) (out : List ℕ) where
   pub writes_fixed : (First refusals 0 → (u v : List ℕ) → P u → P v → u ≡ v) → Fixed (writes refusals P out)

@@ -13,7 +13,7 @@ use lib.Seq.{ext_get_or}
 use Rattle.order.specs.Tables.{mark, Sound, opens, Pair, bytes_of}
 use Rattle.promise.specs.Refusals.{First}
 use Rattle.order.proofs.Decide.{both, either, implies, negated, as_well, all_below, least}
-use Rattle.promise.proofs.Refusals.{stage}
+use Rattle.promise.proofs.Refusals.{stage, dec_too_short}
 use Rattle.order.proofs.Pairs.{lists_unique, pairs_of, pairs_listed}
 use Rattle.promise.specs.declared.Session.{Session}
 use Rattle.promise.specs.declared.Counted.{Counted}
@@ -23,7 +23,7 @@ use Rattle.promise.specs.Hierarchy.{Under, Equal, HeadOf, Head, Third, Direct, H
 use Rattle.promise.specs.Hierarchy.{hierarchy_refusals, hierarchy}
 use Rattle.promise.proofs.Standing.{Stands, standing_passed, stands_first, standing_there}
 use Rattle.promise.proofs.Calls.{Fixed, owed_unique, owed_there}
-use Rattle.promise.proofs.Counts.{over_length, dec_too_short}
+use Rattle.promise.proofs.Counts.{over_length}
 
 -- one head, one list of heads, one list of steps
 

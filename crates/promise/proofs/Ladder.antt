@@ -12,7 +12,7 @@ use lib.ListN.{length, get_or}
 use Rattle.order.specs.Tables.{mark, Sound, opens}
 use Rattle.promise.specs.Refusals.{First, standing}
 use Rattle.order.proofs.Decide.{stable, both, either, negated, as_well, some_below, least}
-use Rattle.promise.proofs.Refusals.{stage}
+use Rattle.promise.proofs.Refusals.{stage, dec_too_short}
 use Rattle.promise.specs.declared.Session.{Session}
 use Rattle.promise.specs.declared.Counted.{Counted}
 use Rattle.promise.specs.declared.Counted.TheVariants.{Count}
@@ -22,7 +22,7 @@ use Rattle.promise.specs.Hierarchy.{Above, Number, ladder_refusals, ladder}
 use Rattle.promise.proofs.Standing.{Stands, standing_own, standing_passed, standing_there, below_of}
 use Rattle.promise.proofs.Standing.{first_stands}
 use Rattle.promise.proofs.Calls.{Fixed, owed_unique, owed_accepted}
-use Rattle.promise.proofs.Counts.{dec_too_short, writes_fixed, writes_there, writes_length, writes_wrote}
+use Rattle.promise.proofs.Counts.{writes_fixed, writes_there, writes_length, writes_wrote}
 use Rattle.promise.proofs.Hierarchy.{head_unique, head_head, head_there, heads_equal, dec_head, dec_under, dec_direct}
 use Rattle.promise.proofs.Hierarchy.{dec_third}
 

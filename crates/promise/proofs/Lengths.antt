@@ -6,7 +6,7 @@ use mathlib.Core.Logic.Iff
 use mathlib.Core.Logic.{◌↔◌, ◌≢◌, inr}
 use mathlib.Core.List.{List, [], ◌∷◌, ◌++◌, Memᴰ}
 use Prim.Native.Nat.{ℕ, zero, suc, ◌+◌, ◌*◌, ◌≤◌, ◌<◌}
-use native.Mathlib.Nat.{suc-mul, mul-le-mul, mod-lt, div-lt_iff_lt-mul}
+use native.Mathlib.Nat.{suc-mul, mul-le-mul}
 use native.Mathlib.Decide.{ℕ_discrete}
 use native.Mathlib.Omega.{arith}
 use lib.ListN.{length, length-append, replicate, length-replicate, get_or-replicate}
@@ -201,10 +201,7 @@ small_bytes (p ∷ l) h =
 -- "two-byte length": every length up to 65,535 can be written
 pub field_bytes :
     (tag : ℕ) (bytes : List ℕ) → tag < 256 → length bytes ≤ 65535 → Small bytes → Small (field tag bytes)
-field_bytes tag bytes ht hl h = (
-  ht,
-  ((div-lt_iff_lt-mul {k = 256} (omega arith)).1 (omega arith), (mod-lt (length bytes) {m = 256} (omega arith), h)),
-)
+field_bytes tag bytes ht hl h = (ht, (omega arith, (omega arith, h)))
 
 pub book_bytes : {n : ℕ} {t book : List ℕ} → BookOf n t book → n ≤ 128 → Small book
 book_bytes {n} {t} h few =

@@ -6,13 +6,17 @@ use mathlib.Core.List.{List, []}
 use Prim.Native.Nat.{ℕ, ◌+◌, ◌≤◌}
 use native.Mathlib.Omega.{arith}
 use lib.ListN.{length}
-use Rattle.order.specs.Facts.{Facts, ◌and◌, Within}
+use Rattle.order.specs.Facts.{Fact, Facts, ◌and◌, ◌with◌, Within}
 use Rattle.order.specs.Tables.{TableOf, Marks, opens}
 use Rattle.order.proofs.Sets.{within_and}
 use Rattle.order.proofs.Tables.{table_sound, table_and}
 use Rattle.promise.specs.declared.Session.{Session}
 use Rattle.promise.specs.Runs.{StandsFor}
 use Rattle.promise.proofs.Standing.{Stands, standing_passed, first_stands}
+
+-- the marks of the table after an accepted fact
+abbrev pub MarksAfter : Session → List ℕ → Fact → List ℕ → Type 0
+MarksAfter s t f u = TableOf s.classes (Marks s.classes t with f) u
 
 -- the facts of F, taken in
 pub record Leaves (F : Facts) (s : Session) (t : List ℕ) (s' : Session) (t' : List ℕ) : Type 0 where

@@ -9,7 +9,7 @@ use native.Mathlib.Nat.{add-zero}
 use native.Mathlib.Omega.{arith}
 use lib.ListN.{length}
 use Rattle.order.specs.Facts.{Fact, Facts, Only, ◌with◌, Below}
-use Rattle.order.specs.Tables.{mark, TableOf, Marks, Contradicts, open_count, opens, mark_against}
+use Rattle.order.specs.Tables.{mark, Marks, Contradicts, open_count, opens, mark_against}
 use Rattle.order.specs.Orders.{Impossible}
 use Rattle.promise.specs.Refusals.{First, standing}
 use Rattle.order.proofs.Decide.{either}
@@ -27,15 +27,12 @@ use Rattle.promise.specs.Tell.{Kind, adds, tell_refusals, tell}
 use Rattle.promise.specs.Runs.{StandsFor}
 use Rattle.promise.proofs.Standing.{Stands, standing_passed, stands_first, first_stands, standing_there}
 use Rattle.promise.proofs.Standing.{below_of}
-use Rattle.promise.proofs.Taking.{Leaves, stands_of}
+use Rattle.promise.proofs.Taking.{MarksAfter, Leaves, stands_of}
 use Rattle.promise.proofs.Calls.{owed_done, changes_unique, changes_kept, changes_session, changes_there}
 
--- the session after an accepted fact, and the marks of its table
+-- the session after an accepted fact
 abbrev pub session_after : Kind → Session → List ℕ → Fact → Session
 session_after kind s t f = tested (adds kind 0 (mark s.classes t f.lower f.upper)) s
-
-abbrev pub MarksAfter : Session → List ℕ → Fact → List ℕ → Type 0
-MarksAfter s t f u = TableOf s.classes (Marks s.classes t with f) u
 
 pub tell_unique :
     (kind : Kind) {s : Session} {t : List ℕ} {f : Fact} {o o₂ : Reply × List ℕ} → Owed (tell kind s t f) o

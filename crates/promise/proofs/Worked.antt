@@ -5,7 +5,7 @@ use native.Mathlib.Decide.{ℕ_discrete, dec_lt, dec_le}
 use Rattle.order.specs.Tables.{mark, opens_to}
 use Rattle.order.proofs.Decide.{both, either, implies, negated, as_well, all_below, some_below, all_pairs, least}
 use Rattle.order.proofs.Decide.{least_from}
-use Rattle.promise.proofs.Refusals.{stage}
+use Rattle.promise.proofs.Refusals.{stage, dec_too_short}
 use Rattle.order.proofs.Sound.{is, dec_sound, dec_transitive, dec_pruned}
 use Rattle.order.proofs.Taking.{dec_yes_after_yes, dec_no_after_yes, dec_no_after_no}
 use Rattle.order.proofs.Pairs.{row_to, rows_to}
@@ -23,7 +23,7 @@ use Rattle.promise.proofs.Tell.{tell_there}
 use Rattle.promise.proofs.Clips.{dec_beyond, dec_clip_contradicts, dec_clipped_no, clip_there, dec_flags_fit}
 use Rattle.promise.proofs.Clips.{bytes_there}
 use Rattle.promise.proofs.Next.{first_of, next_there}
-use Rattle.promise.proofs.Counts.{dec_too_short, writes_there, open_pairs_there}
+use Rattle.promise.proofs.Counts.{writes_there, open_pairs_there}
 use Rattle.promise.proofs.Crossing.{next_for_c_there, open_pairs_for_c_there, writes_for_c_there}
 use Rattle.promise.proofs.Crossing.{hierarchy_for_c_there, ladder_for_c_there, write_for_c_there}
 use Rattle.promise.proofs.Hierarchy.{dec_under, dec_equal, dec_head_of, dec_head, dec_third, dec_direct, head_there}

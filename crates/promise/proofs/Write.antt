@@ -10,7 +10,7 @@ use lib.ListN.{length}
 use Rattle.order.specs.Tables.{mark, SameMarks, Pair, bytes_of}
 use Rattle.promise.specs.Refusals.{First, standing}
 use Rattle.order.proofs.Decide.{both, negated}
-use Rattle.promise.proofs.Refusals.{stage}
+use Rattle.promise.proofs.Refusals.{stage, dec_too_short}
 use Rattle.order.proofs.Pairs.{lists_unique, lists_map, pairs_of, pairs_listed}
 use Rattle.order.proofs.Sound.{is}
 use Rattle.promise.specs.declared.Session.{Session}
@@ -19,7 +19,7 @@ use Rattle.promise.specs.Calls.{Owed, TooShort}
 use Rattle.promise.specs.Book.{field, PairsMarked, BookOf, write_refusals, write}
 use Rattle.promise.proofs.Standing.{standing_passed, standing_there}
 use Rattle.promise.proofs.Calls.{Fixed, owed_unique}
-use Rattle.promise.proofs.Counts.{dec_too_short, writes_fixed, writes_there, writes_length}
+use Rattle.promise.proofs.Counts.{writes_fixed, writes_there, writes_length}
 
 pub book_unique : {n : ℕ} {t : List ℕ} (book book₂ : List ℕ) → BookOf n t book → BookOf n t book₂ → book ≡ book₂
 book_unique {n} book book₂ h k =
