@@ -17,6 +17,7 @@ use Rattle.session.specs.Facts.{kind_of, count_of, Judged}
 use Rattle.promise.proofs.Standing.{Stands, first_stands}
 use Rattle.promise.proofs.Calls.{owed_refused, owed_done}
 use Rattle.promise.proofs.Tell.{agreeing_accepted}
+use Rattle.marks.proofs.Shape.{shaped}
 use Rattle.passes.specs.Taken.{OpenPair, FactTaken}
 
 module _ (kind : Kind) {s : Session} {t : List ℕ} (st : Stands s t) (lower upper : ℕ) where
@@ -61,6 +62,19 @@ module _ (kind : Kind) {s : Session} {t : List ℕ} (st : Stands s t) (lower upp
     judged_no true m e = rw e (contradicts true m)
     judged_no false m e =
         rw e (agrees false (record { lower_below = lower_below; upper_below = upper_below; settled = m }))
+
+-- a pair that is open, where none of the refusals 1 to 4 is due
+pub open_pair :
+    {s : Session} {t : List ℕ} → Stands s t → (lower upper : ℕ) → lower < s.classes → upper < s.classes
+    → mark s.classes t lower upper ≡ 0 → OpenPair s.classes t lower upper
+open_pair st lower upper lower_below upper_below is_open =
+    record {
+      shape = shaped st;
+      sound = st.sound;
+      lower_below = lower_below;
+      upper_below = upper_below;
+      is_open = is_open;
+    }
 
 -- a fact on an open pair, taken in
 pub open_taken :

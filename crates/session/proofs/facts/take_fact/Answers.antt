@@ -7,25 +7,8 @@ use Rattle.session.specs.Facts.{kind_of}
 use Rattle.promise.proofs.Standing.{stood, square}
 use Rattle.marks.specs.Shape.{byte_of}
 use Rattle.marks.proofs.Shape.{shaped}
-use Rattle.passes.specs.Taken.{OpenPair}
-use Rattle.session.proofs.Takes.{no_such_class_owed, judged_yes, judged_no, open_taken}
+use Rattle.session.proofs.Takes.{no_such_class_owed, judged_yes, judged_no, open_pair, open_taken}
 use Rattle.session.proofs.facts.take_fact.Goals as goal
-use Rattle.session.proofs.facts.take_fact.Goals.{In-Open}
-
--- in the third arm the pair is open
-opened :
-    (e : In-Open)
-    → let a = e.args in
-    OpenPair a.session.classes a.table.now a.lower a.upper
-opened e =
-    let st = stood _ _ 0 e.requires refl in
-    record {
-      shape = shaped st;
-      sound = st.sound;
-      lower_below = e.if-n-lower.false;
-      upper_below = e.if-n-upper.false;
-      is_open = e.mark_of-mark.ensures ∙ ap byte_of e.in-Open.is;
-    }
 
 pub returns-then-n-lower : goal.returns-then-n-lower
 returns-then-n-lower c =
@@ -48,7 +31,9 @@ mark_of-mark-requires c =
     )
 
 pub take_in-requires : goal.take_in-requires
-take_in-requires c = opened (goal.at.take_in-requires c).In-Open
+take_in-requires c =
+    open_pair (stood _ _ 0 c.requires refl) _ _ c.if-n-lower.false c.if-n-upper.false
+    (c.mark_of-mark.ensures ∙ ap byte_of c.in-Open.is)
 
 pub tested-requires : goal.tested-requires
 tested-requires c =
@@ -72,4 +57,6 @@ returns-in-Open c =
     rw (c.accepted.ensures, c.tested.ensures)
     (open_taken c.args.counts c.args.holds c.args.session c.args.table.now _ _ _
     (stood _ _ 0 c.requires refl)
-    (opened (goal.at.returns-in-Open c).In-Open) c.take_in.ensures)
+    (open_pair (stood _ _ 0 c.requires refl) _ _ c.if-n-lower.false c.if-n-upper.false
+    (c.mark_of-mark.ensures ∙ ap byte_of c.in-Open.is))
+    c.take_in.ensures)
