@@ -41,6 +41,9 @@ TURNED = """
 # Words that a file of the repository declares beside a library's of the same spelling.
 OTHERS = {"add-zero", "length-append", "zero-add"}
 
+# A name that is also a word of comments.
+ENGLISH = {"non-member"}
+
 
 def lemma_files():
     found = glob.glob("crates/*/specs/*.antt") + glob.glob("crates/*/proofs/*.antt")
@@ -104,7 +107,12 @@ def declared():
 
 
 def turn(text, names):
-    return WORD.sub(lambda m: names.get(m.group(0), m.group(0)), text)
+    return "".join(turn_line(line, names) for line in text.splitlines(keepends=True))
+
+
+def turn_line(line, names):
+    english = ENGLISH if line.lstrip().startswith("--") else ()
+    return WORD.sub(lambda m: m.group(0) if m.group(0) in english else names.get(m.group(0), m.group(0)), line)
 
 
 def turn_code(text, names):

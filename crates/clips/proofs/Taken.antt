@@ -30,7 +30,7 @@ module _ {s : Session} {t : List ℕ} {played : List Bool} (st : Stands s t) whe
         owed_refused (clip s t played) (λ k. refl)
         (first_stands (clip_refusals s t played) st (inr (inside, inl (c, refl)))) (λ z. omega arith)
 
-    -- accepted: the pairs of a member and a non_member are marked no
+    -- accepted: the pairs of a member and a non-member are marked no
     pub clip_taken :
         {others : List Bool} {t' : List ℕ} → ¬ SomeContradicts s.classes t (ClipNo s.classes played)
         → FlagsOf s.classes (λ x. ¬ Flagged played x) others

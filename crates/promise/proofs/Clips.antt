@@ -58,7 +58,7 @@ module _ (n : ℕ) (played : List Bool) where
       record { below = record { lower_below = ha; upper_below = hb }; member = p; non_member = q; is_no = refl }
 
   module _ (t : List ℕ) where
-    -- member a is marked as under non_member b
+    -- member a is marked as under non-member b
     abbrev pub Contrary : ℕ → ℕ → Type 0
     Contrary a b = (Flagged played a × (¬ Flagged played b)) × (mark n t a b ≡ 1)
 
@@ -84,7 +84,7 @@ module _ (n : ℕ) (played : List Bool) where
         some_below (Contrary a) (λ b.
         both (both (dec_flagged played a) (negated (dec_flagged played b))) (is n t 1 a b)) n) n)
 
--- A clip that does not contradict marks the pairs of a member and a non_member, and settles no other: what a member
+-- A clip that does not contradict marks the pairs of a member and a non-member, and settles no other: what a member
 -- is under is a member, so that its noes spread no further.
 module _ {n : ℕ} {t : List ℕ} {played : List Bool} (sound : Sound n t)
     (fine : ¬ SomeContradicts n t (ClipNo n played)) where

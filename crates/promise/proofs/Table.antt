@@ -346,7 +346,7 @@ row Mark.later_far =
 row Mark.book_no_answers = book_of_three (4 ∷ 0 ∷ 0 ∷ []) gives (replied 0 0 (three 0), p2)
 row Mark.book_answers =
     book_of_three (4 ∷ 0 ∷ 9 ∷ 0 ∷ 1 ∷ 1 ∷ 0 ∷ 2 ∷ 0 ∷ 1 ∷ 1 ∷ 1 ∷ []) gives (replied 0 0 (three 2), p4)
--- clips: the pairs of a member and a non_member, and no other; not counted
+-- clips: the pairs of a member and a non-member, and no other; not counted
 row Mark.clip_of_two = Input.clip (three 0) after_yes first_two gives (replied 0 0 (three 0), p4)
 row Mark.clip_of_second =
     Input.clip (three 0) after_yes (false ∷ true ∷ [])

@@ -22,7 +22,7 @@ abbrev pub flags_of : List ℕ → List Bool
 flags_of [] = []
 flags_of (byte ∷ bytes) = truth_of byte ∷ flags_of bytes
 
--- "Then no member of the set lies under a non_member": the noes of a clip, for n classes; a member's flag is set
+-- "Then no member of the set lies under a non-member": the noes of a clip, for n classes; a member's flag is set
 pub record ClipNo (n : ℕ) (played : List Bool) (f : Fact) : Type 0 where
   pub below : Below n f
   pub member : Flagged played f.lower

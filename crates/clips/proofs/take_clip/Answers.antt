@@ -5,7 +5,7 @@ use Rattle.order.proofs.Decide.{stable}
 use Rattle.promise.proofs.Standing.{Stands, stood}
 use Rattle.promise.proofs.Clips.{dec_beyond, dec_clip_contradicts}
 use Rattle.marks.proofs.Shape.{shaped}
-use Rattle.marks.proofs.Answers.{refuted, granted}
+use Rattle.marks.proofs.Answers.{refuted, affirmed}
 use Rattle.clips.proofs.Taken.{clip_beyond, clip_contradicted, clip_taken}
 use Rattle.clips.proofs.take_clip.Goals as goal
 use Rattle.clips.proofs.take_clip.Goals.{Start}
@@ -26,7 +26,7 @@ pub returns-then-not-agrees : goal.returns-then-not-agrees
 returns-then-not-agrees c =
     rw c.refused-then-not-agrees.ensures
     (clip_contradicted (stands (goal.at.returns-then-not-agrees c).Start)
-    (granted c.if-not-below.false c.none_beyond-below.ensures)
+    (affirmed c.if-not-below.false c.none_beyond-below.ensures)
     (stable (dec_clip_contradicts _ _ _) (refuted c.if-not-agrees.true c.none_contradicts-agrees.ensures)))
 
 pub non_members-others-requires : goal.non_members-others-requires
@@ -38,6 +38,6 @@ spread-requires c = shaped (stands (goal.at.spread-requires c).Start)
 pub returns : goal.returns
 returns c =
     rw c.accepted.ensures
-    (clip_taken (stands (goal.at.returns c).Start) (granted c.if-not-below.false c.none_beyond-below.ensures)
-    (granted c.if-not-agrees.false c.none_contradicts-agrees.ensures) c.non_members-others.ensures
+    (clip_taken (stands (goal.at.returns c).Start) (affirmed c.if-not-below.false c.none_beyond-below.ensures)
+    (affirmed c.if-not-agrees.false c.none_contradicts-agrees.ensures) c.non_members-others.ensures
     c.spread.ensures)

@@ -7,7 +7,7 @@ use Prim.Native.Nat.{◌<◌}
 use native.Mathlib.Omega.{arith}
 use Rattle.order.specs.Tables.{Sound}
 use Rattle.promise.proofs.Standing.{square_above, square}
-use Rattle.marks.proofs.Answers.{refuted, granted}
+use Rattle.marks.proofs.Answers.{refuted, affirmed}
 use Rattle.standing.proofs.first_refusal.Goals as goal
 use Rattle.standing.proofs.first_refusal.Goals.{Else-n-gt-MOST_CLASSES, Else-not-sound}
 
@@ -18,7 +18,7 @@ range e = ⊎_elim e.if-n-eq0.false (λ l. omega arith)
 sound :
     (e : Else-not-sound)
     → let a = e.args in ¬ ¬ Sound a.session.classes a.table.now
-sound e k = k (granted e.if-not-sound.false e.is_sound-sound.ensures)
+sound e k = k (affirmed e.if-not-sound.false e.is_sound-sound.ensures)
 
 pub returns-then-n-eq0 : goal.returns-then-n-eq0
 returns-then-n-eq0 c = inl (inl c.if-n-eq0.true, refl)

@@ -3,7 +3,7 @@
 use mathlib.Core.Path.{refl, sym, ◌∙◌}
 use mathlib.Core.Bool.{false≢true}
 use native.Mathlib.Omega.{arith}
-use Rattle.marks.proofs.Answers.{refuted, granted, never}
+use Rattle.marks.proofs.Answers.{refuted, affirmed, never}
 use Rattle.marks.proofs.Upto.{none, more, all}
 use Rattle.clips.proofs.Seen.{all_agree, one_agrees}
 use Rattle.clips.proofs.members.none_contradicts.Goals as goal
@@ -25,7 +25,7 @@ pub loop-class-preserved : goal.loop-class-preserved
 loop-class-preserved c =
     more c.loop-class-test.true c.loop-class.invariant
     (elim c.if-played-class.branch [
-      | then-played-class+else-not-agrees w ↦ λ _. granted w.if-not-agrees.false w.under_members-agrees.ensures
+      | then-played-class+else-not-agrees w ↦ λ _. affirmed w.if-not-agrees.false w.under_members-agrees.ensures
       | else-played-class w ↦ λ p. absurd (false≢true (sym w.if-played-class.false ∙ p))
     ])
 

@@ -2,7 +2,7 @@
 -- Assumes nothing.
 use mathlib.Core.Logic.{inl, inr}
 use Rattle.promise.proofs.Standing.{Stands, stood}
-use Rattle.marks.proofs.Answers.{refuted, granted}
+use Rattle.marks.proofs.Answers.{refuted, affirmed}
 use Rattle.marks.proofs.Shape.{shaped}
 use Rattle.hierarchy.proofs.Outcomes.{ladder_standing, ladder_no_class, ladder_open, ladder_none, ladder_left_owed}
 use Rattle.hierarchy.proofs.ladders.ladder.Goals as goal
@@ -54,12 +54,12 @@ write_ladder-requires c =
       table = record { shape = shaped st; sound = st.sound };
       lower_below = c.if-n-a.false;
       upper_below = c.if-n-b.false;
-      under = granted c.if-not-up.false c.under-up.ensures;
+      under = affirmed c.if-not-up.false c.under-up.ensures;
     }
 
 pub returns : goal.returns
 returns c =
     ladder_left_owed _ _ _ _ _ (passed (goal.at.returns c).Else-number-ne0) c.if-n-a.false c.if-n-b.false
     (rw c.count_open-open.ensures at c.if-open-ne0.false)
-    (granted c.if-not-up.false c.under-up.ensures)
+    (affirmed c.if-not-up.false c.under-up.ensures)
     c.write_ladder.ensures

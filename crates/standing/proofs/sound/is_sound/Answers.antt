@@ -2,7 +2,7 @@
 -- Assumes nothing.
 use mathlib.Core.Path.{refl}
 use native.Mathlib.Omega.{arith}
-use Rattle.marks.proofs.Answers.{refuted, granted, never}
+use Rattle.marks.proofs.Answers.{refuted, affirmed, never}
 use Rattle.marks.proofs.Upto.{none, more, all}
 use Rattle.standing.proofs.Soundness.{small_of, pair_of, sound_of}
 use Rattle.standing.proofs.sound.is_sound.Goals as goal
@@ -26,7 +26,7 @@ returns-then-not-stands c = never (λ h. refuted c.if-not-stands.true c.pair_sta
 
 pub loop-b-preserved : goal.loop-b-preserved
 loop-b-preserved c = more (omega arith) c.loop-b.invariant
-    (granted c.if-not-stands.false c.pair_stands-stands.ensures)
+    (affirmed c.if-not-stands.false c.pair_stands-stands.ensures)
 
 pub loop-a-preserved : goal.loop-a-preserved
 loop-a-preserved c = more (omega arith) c.loop-a.invariant
@@ -35,8 +35,8 @@ loop-a-preserved c = more (omega arith) c.loop-a.invariant
 pub returns : goal.returns
 returns c = (
   λ _.
-      sound_of (granted c.if-not-small.false c.marks_small-small.ensures)
-      (granted c.if-not-diagonal.false c.diagonal_yes-diagonal.ensures)
+      sound_of (affirmed c.if-not-small.false c.marks_small-small.ensures)
+      (affirmed c.if-not-diagonal.false c.diagonal_yes-diagonal.ensures)
       (λ a b ha hb. all c.loop-a-test.false c.loop-a.invariant a ha b hb),
   λ _. refl,
 )

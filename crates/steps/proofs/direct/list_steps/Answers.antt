@@ -2,7 +2,7 @@
 -- Assumes nothing.
 use Prim.Native.Nat.{◌<◌}
 use native.Mathlib.Omega.{arith}
-use Rattle.marks.proofs.Answers.{refuted, granted}
+use Rattle.marks.proofs.Answers.{refuted, affirmed}
 use Rattle.buffers.proofs.Noting.{so_far_none, along_none, few, hit, miss, row_end, all_noted}
 use Rattle.steps.proofs.HeadsFound.{head_at}
 use Rattle.steps.proofs.Between.{none_yet, no_steps}
@@ -37,7 +37,7 @@ is_direct-direct-requires c =
     let f = c.requires in (
       f,
       c.find_thirds.ensures,
-      (head_at f c.loop-a-test.true).0 (granted c.if-not-head.false c.is_head-head.ensures),
+      (head_at f c.loop-a-test.true).0 (affirmed c.if-not-head.false c.is_head-head.ensures),
       c.loop-b-test.true,
     )
 

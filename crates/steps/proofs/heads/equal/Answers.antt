@@ -1,6 +1,6 @@
 -- `steps::heads::equal` meets its contract.
 -- Assumes nothing.
-use Rattle.marks.proofs.Answers.{refuted, granted, never}
+use Rattle.marks.proofs.Answers.{refuted, affirmed, never}
 use Rattle.steps.proofs.heads.equal.Goals as goal
 
 pub returns-then-not-up : goal.returns-then-not-up
@@ -8,6 +8,6 @@ returns-then-not-up c = never (λ h. refuted c.if-not-up.true c.under-up.ensures
 
 pub returns : goal.returns
 returns c = (
-  λ e. (granted c.if-not-up.false c.under-up.ensures, c.under.ensures.0 e),
+  λ e. (affirmed c.if-not-up.false c.under-up.ensures, c.under.ensures.0 e),
   λ h. c.under.ensures.1 h.1,
 )

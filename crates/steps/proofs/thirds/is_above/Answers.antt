@@ -1,6 +1,6 @@
 -- `steps::thirds::is_above` meets its contract: each part is tested in turn.
 -- Assumes nothing.
-use Rattle.marks.proofs.Answers.{refuted, granted, never}
+use Rattle.marks.proofs.Answers.{refuted, affirmed, never}
 use Rattle.steps.proofs.HeadsFound.{head_at}
 use Rattle.steps.proofs.thirds.is_above.Goals as goal
 
@@ -17,7 +17,7 @@ returns c =
           record {
             head = (head_at p.0 p.2).0 (c.is_head.ensures.0 e);
             differ = c.if-c-a.false;
-            under = granted c.if-not-above.false c.under-above.ensures;
+            under = affirmed c.if-not-above.false c.under-above.ensures;
           },
       λ h. c.is_head.ensures.1 ((head_at p.0 p.2).1 h.head),
     )
