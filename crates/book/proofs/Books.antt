@@ -11,8 +11,8 @@ use Rattle.promise.specs.Refusals.{First, standing}
 use Rattle.order.proofs.Pairs.{lists_unique, pairs_of, before_all, pairs_listed, length_bytes}
 use Rattle.order.proofs.Counting.{before_length}
 use Rattle.promise.specs.declared.Session.{Session}
-use Rattle.promise.specs.declared.Counted.{Counted}
-use Rattle.promise.specs.declared.Counted.TheVariants.{Count, Refused}
+use Rattle.promise.specs.Calls.{Counted}
+use Rattle.promise.specs.Calls.Counted.{Count, Refused}
 use Rattle.promise.specs.Calls.{Owed}
 use Rattle.promise.specs.Book.{field, PairsMarked, BookOf, write_refusals, write}
 use Rattle.promise.proofs.Standing.{Stands, standing_refused, first_stands, square}

@@ -2,7 +2,7 @@
 -- Assumes nothing.
 use Rattle.std.specs.Prelude.{List, [], ◌∷◌, ℕ, ◌+◌, ◌≤◌, length}
 use Rattle.order.specs.Tables.{Pair, bytes_of}
-use Rattle.promise.specs.declared.Counted.{Counted}
+use Rattle.promise.specs.Calls.{Counted}
 use Rattle.promise.specs.Refusals.{no_room}
 use Rattle.promise.specs.Calls.{started, Call, TooShort}
 use Rattle.promise.specs.Book.{field, PairsMarked, BookOf, write}

@@ -11,8 +11,8 @@ use Rattle.order.specs.Tables.{Sound, opens, bytes_of}
 use Rattle.promise.specs.Refusals.{First, standing}
 use Rattle.order.proofs.Pairs.{length_bytes}
 use Rattle.promise.specs.declared.Session.{Session}
-use Rattle.promise.specs.declared.Counted.{Counted}
-use Rattle.promise.specs.declared.Counted.TheVariants.{Count, Refused}
+use Rattle.promise.specs.Calls.{Counted}
+use Rattle.promise.specs.Calls.Counted.{Count, Refused}
 use Rattle.promise.specs.Calls.{Owed, over, TooShort}
 use Rattle.promise.specs.Hierarchy.{Under, HeadOf, HeadsOf, StepBytes, hierarchy_refusals, hierarchy, LadderOf}
 use Rattle.promise.specs.Hierarchy.{ladder_refusals, ladder}

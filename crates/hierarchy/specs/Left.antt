@@ -1,7 +1,7 @@
 -- What hierarchy and ladder still owe where only 8 may be due.
 -- Assumes nothing.
 use Rattle.std.specs.Prelude.{◌⊎◌, List, [], ◌∷◌, ℕ, ◌<◌}
-use Rattle.promise.specs.declared.Counted.{Counted}
+use Rattle.promise.specs.Calls.{Counted}
 use Rattle.promise.specs.Calls.{started, Call, TooShort}
 use Rattle.promise.specs.Refusals.{no_room}
 use Rattle.promise.specs.Hierarchy.{Under, HeadsOf, StepBytes, hierarchy, LadderOf, ladder}

@@ -12,10 +12,10 @@ use Rattle.order.specs.Tables.{opens, Pair, bytes_of}
 use Rattle.promise.specs.Refusals.{First, standing}
 use Rattle.promise.specs.declared.Session.{Session}
 use Rattle.promise.specs.declared.Reply.{Reply}
-use Rattle.promise.specs.declared.Question.{Question}
-use Rattle.promise.specs.declared.Question.TheVariants.{Ask, Done, Refused}
-use Rattle.promise.specs.declared.Counted.{Counted}
-use Rattle.promise.specs.declared.Counted.TheVariants.{Count}
+use Rattle.promise.specs.Next.{Question}
+use Rattle.promise.specs.Next.Question.{Ask, Done, Refused}
+use Rattle.promise.specs.Calls.{Counted}
+use Rattle.promise.specs.Calls.Counted.{Count}
 use Rattle.promise.specs.Calls.{open_pairs, over, Owed}
 use Rattle.promise.specs.Next.{FirstOpen, next}
 use Rattle.promise.specs.Hierarchy.{HeadsOf, StepsOf, hierarchy}

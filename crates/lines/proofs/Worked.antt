@@ -9,7 +9,7 @@ use lib.ListN.{length, get_or, take, drop}
 use lib.Seq.{take_at}
 use Rattle.order.specs.Tables.{opens_to, Pair, bytes_of}
 use Rattle.promise.specs.declared.Reply.{Reply}
-use Rattle.promise.specs.declared.Counted.{Counted}
+use Rattle.promise.specs.Calls.{Counted}
 use Rattle.promise.specs.Calls.{count_for}
 use Rattle.promise.specs.Book.{BookRead}
 use Rattle.promise.proofs.Read.{read_unique}

@@ -14,7 +14,7 @@ use Rattle.order.proofs.Tables.{table_unique, table_of_equals}
 use Rattle.order.proofs.Exactness.{possible_subset, table_possible}
 use Rattle.order.proofs.Bytes.{same_list, rest_sym, rest_trans}
 use Rattle.promise.specs.declared.Session.{Session}
-use Rattle.promise.specs.Tell.{Kind}
+use Rattle.promise.specs.declared.Kind.{Kind}
 use Rattle.promise.specs.Runs.{StandsFor, Intake, SaidBy, Said, Fits, AllFit, Made, Run, FromFresh, calls_of}
 use Rattle.promise.specs.Runs.{Accepted, AllAccepted}
 use Rattle.promise.proofs.Fresh.{fresh_stands}

@@ -11,7 +11,7 @@ use Rattle.order.specs.Orders.{Order, Agrees, Possible}
 use Rattle.order.proofs.Sets.{entails_subset, and_none}
 use Rattle.order.proofs.Tables.{table_unique, table_of_equals}
 use Rattle.order.proofs.Exactness.{open_possible}
-use Rattle.promise.specs.Tell.{Kind}
+use Rattle.promise.specs.declared.Kind.{Kind}
 use Rattle.promise.specs.Runs.{Intake, Made, Run, FromFresh}
 use Rattle.promise.proofs.Runs.{fresh_run_table}
 use Rattle.promise.proofs.Table.{Mark, p2, p3, three, nines, replied}
@@ -28,7 +28,7 @@ p3_table =
     (fresh_run_table told)
   where
     made : List Made
-    made = record { call = Intake.fact Kind.told (not_under 0 2); number = 0 } ∷ []
+    made = record { call = Intake.fact Kind.Told (not_under 0 2); number = 0 } ∷ []
 
     told : FromFresh 3 (nines 9) made (three 0) p3
     told =

@@ -13,7 +13,7 @@ use lib.Seq.{drop-drop}
 use Rattle.promise.specs.Refusals.{First}
 use Rattle.promise.specs.declared.Stage.{Stage}
 use Rattle.promise.specs.declared.Stage.TheVariants.{Start, Begun}
-use Rattle.promise.specs.Tell.{Kind}
+use Rattle.promise.specs.declared.Kind.{Kind}
 use Rattle.promise.specs.Book.{at_start, Lookup, row_of, length_of, size_of, field_refusals, Item, facts_from}
 use Rattle.promise.specs.Book.{field_says, stage_behind, items_from, items_of}
 use Rattle.promise.proofs.Tags.{FactsTag, RowIs, row_is, Right, field_right, facts_width, facts_fit}

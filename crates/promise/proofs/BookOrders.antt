@@ -21,7 +21,7 @@ use Rattle.promise.specs.declared.Stage.{Stage}
 use Rattle.promise.specs.declared.Stage.TheVariants.{Start, Begun}
 use Rattle.promise.specs.declared.Session.{Session}
 use Rattle.promise.specs.declared.Reply.{Reply}
-use Rattle.promise.specs.Tell.{Kind}
+use Rattle.promise.specs.declared.Kind.{Kind}
 use Rattle.promise.specs.Runs.{StandsFor, FromFresh}
 use Rattle.promise.specs.Book.{field_refusals, Item, items_of, fact_of, BookRead}
 use Rattle.promise.proofs.Standing.{below_of}

@@ -22,7 +22,7 @@ use Rattle.order.proofs.Pairs.{length_bytes}
 use Rattle.order.proofs.Sound.{is}
 use Rattle.promise.specs.declared.Stage.{Stage}
 use Rattle.promise.specs.declared.Stage.TheVariants.{Start, Begun}
-use Rattle.promise.specs.Tell.{Kind}
+use Rattle.promise.specs.declared.Kind.{Kind}
 use Rattle.promise.specs.Clips.{truth_of}
 use Rattle.promise.specs.Runs.{Accepted}
 use Rattle.promise.specs.Book.{TagRow, count_row, facts_row, Lookup, row_of, length_of, size_of, field_refusals, Item}
@@ -70,20 +70,20 @@ module _ (stage : Stage) (tag : ℕ) (row : TagRow) (known : row_of tag ≡ Look
 -- the facts told by a list of pairs, the first of them at place at
 abbrev pub tells_of : ℕ → ℕ → List Pair → List Item
 tells_of v at [] = []
-tells_of v at (p ∷ l) = Item.said at Kind.told p.0 p.1 v ∷ tells_of v (at + 2) l
+tells_of v at (p ∷ l) = Item.said at Kind.Told p.0 p.1 v ∷ tells_of v (at + 2) l
 
 pairs_told :
     (v at : ℕ) (l : List Pair) (rest : List ℕ)
-    → facts_from (length l) 2 Kind.told (λ bytes. v) at (bytes_of l ++ rest) ≡ tells_of v at l
+    → facts_from (length l) 2 Kind.Told (λ bytes. v) at (bytes_of l ++ rest) ≡ tells_of v at l
 unfolding facts_from
 pairs_told v at [] rest = refl
 pairs_told v at (p ∷ l) rest =
-    ap (λ (items : List Item). Item.said at Kind.told p.0 p.1 v ∷ items) (pairs_told v (at + 2) l rest)
+    ap (λ (items : List Item). Item.said at Kind.Told p.0 p.1 v ∷ items) (pairs_told v (at + 2) l rest)
 
 -- a written field of pairs tells them
 pairs_said :
     (tag v at : ℕ) (l : List Pair) (rest : List ℕ)
-    → field_says (Lookup.row (facts_row tag 2 Kind.told (λ bytes. v))) at (field tag (bytes_of l) ++ rest)
+    → field_says (Lookup.row (facts_row tag 2 Kind.Told (λ bytes. v))) at (field tag (bytes_of l) ++ rest)
     ≡ tells_of v (at + 3) l
 pairs_said tag v at l rest =
     let count : length_of (field tag (bytes_of l) ++ rest) / 2 ≡ length l =
@@ -108,11 +108,11 @@ known_count : row_of 1 ≡ Lookup.row (count_row 1)
 unfolding row_of
 known_count = refl
 
-known_yes : row_of 2 ≡ Lookup.row (facts_row 2 2 Kind.told (λ bytes. 1))
+known_yes : row_of 2 ≡ Lookup.row (facts_row 2 2 Kind.Told (λ bytes. 1))
 unfolding row_of
 known_yes = refl
 
-known_no : row_of 3 ≡ Lookup.row (facts_row 3 2 Kind.told (λ bytes. 0))
+known_no : row_of 3 ≡ Lookup.row (facts_row 3 2 Kind.Told (λ bytes. 0))
 unfolding row_of
 known_no = refl
 
@@ -141,9 +141,9 @@ book_items {n} h =
     last fuel at =
         let whole = append-nil (field 3 (bytes_of zs)) in
         ap (items_from (suc (suc fuel)) Begun at) (sym whole)
-        ∙ field_items Begun 3 (facts_row 3 2 Kind.told (λ bytes. 0)) known_no refl (suc fuel) at (bytes_of zs) []
+        ∙ field_items Begun 3 (facts_row 3 2 Kind.Told (λ bytes. 0)) known_no refl (suc fuel) at (bytes_of zs) []
         ∙ ap₂ (λ (l : List ℕ) (items : List Item). Item.head at Begun l ∷ items) whole
-        (append-nil (field_says (Lookup.row (facts_row 3 2 Kind.told (λ bytes. 0))) at (field 3 (bytes_of zs) ++ []))
+        (append-nil (field_says (Lookup.row (facts_row 3 2 Kind.Told (λ bytes. 0))) at (field 3 (bytes_of zs) ++ []))
         ∙ pairs_said 3 0 at zs [])
 
     said :
@@ -155,7 +155,7 @@ book_items {n} h =
         (pair_fields ys zs)
         ∙ ap
         (λ (items : List Item). Item.head 0 Start (field 1 (n ∷ []) ++ pair_fields ys zs) ∷ Item.begin 0 n ∷ items)
-        (field_items Begun 2 (facts_row 2 2 Kind.told (λ bytes. 1)) known_yes refl (suc (suc (suc (suc (suc L))))) 4
+        (field_items Begun 2 (facts_row 2 2 Kind.Told (λ bytes. 1)) known_yes refl (suc (suc (suc (suc (suc L))))) 4
         (bytes_of ys)
         (field 3 (bytes_of zs))
         ∙ ap₂ (λ (told items : List Item). Item.head 4 Begun (pair_fields ys zs) ∷ told ++ items)
@@ -170,11 +170,11 @@ pub fields_fine :
 fields_fine {n} h = (
   rw h.bytes
       (field_fine Start 1 (count_row 1) known_count refl (n ∷ []) (pair_fields h.yes_pairs h.no_pairs) refl),
-  field_fine Begun 2 (facts_row 2 2 Kind.told (λ bytes. 1)) known_yes refl (bytes_of h.yes_pairs)
+  field_fine Begun 2 (facts_row 2 2 Kind.Told (λ bytes. 1)) known_yes refl (bytes_of h.yes_pairs)
       (field 3 (bytes_of h.no_pairs))
       (even h.yes_pairs),
   subst (λ (l : List ℕ). First (field_refusals Begun l) 0) (append-nil (field 3 (bytes_of h.no_pairs)))
-      (field_fine Begun 3 (facts_row 3 2 Kind.told (λ bytes. 0)) known_no refl (bytes_of h.no_pairs) []
+      (field_fine Begun 3 (facts_row 3 2 Kind.Told (λ bytes. 0)) known_no refl (bytes_of h.no_pairs) []
       (even h.no_pairs)),
 )
 

@@ -11,8 +11,8 @@ use lib.ListN.{length, drop, length-append, length-drop}
 use Rattle.order.specs.Tables.{opens}
 use Rattle.promise.specs.Refusals.{Condition, First}
 use Rattle.promise.specs.declared.Session.{Session}
-use Rattle.promise.specs.declared.Counted.{Counted}
-use Rattle.promise.specs.declared.Counted.TheVariants.{Count}
+use Rattle.promise.specs.Calls.{Counted}
+use Rattle.promise.specs.Calls.Counted.{Count}
 use Rattle.promise.specs.Calls.{Owed, count_number, open_pairs, over, TooShort, writes, count_for}
 use Rattle.promise.proofs.Refusals.{Alike}
 use Rattle.promise.proofs.Standing.{standing_there}

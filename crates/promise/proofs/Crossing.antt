@@ -5,10 +5,10 @@ use mathlib.Core.Path.{◌≡◌, refl, ◌∙◌}
 use mathlib.Core.List.{List}
 use Prim.Native.Nat.{ℕ}
 use Rattle.promise.specs.declared.Session.{Session}
-use Rattle.promise.specs.declared.Question.{Question}
-use Rattle.promise.specs.declared.Question.TheVariants.{Ask, Done, Refused}
-use Rattle.promise.specs.declared.Counted.{Counted}
-use Rattle.promise.specs.declared.Counted.TheVariants.{Count}
+use Rattle.promise.specs.Next.{Question}
+use Rattle.promise.specs.Next.Question.{Ask, Done, Refused}
+use Rattle.promise.specs.Calls.{Counted}
+use Rattle.promise.specs.Calls.Counted.{Count}
 use Rattle.promise.specs.declared.CrossedQuestion.{CrossedQuestion}
 use Rattle.promise.specs.declared.CrossedCount.{CrossedCount}
 use Rattle.promise.specs.Calls.{Call, Owed, count_number, open_pairs, count_for, count_for_c, writes_for_c}

@@ -16,8 +16,8 @@ use Rattle.order.proofs.Decide.{both, either, implies, negated, as_well, all_bel
 use Rattle.promise.proofs.Refusals.{stage, dec_too_short}
 use Rattle.order.proofs.Pairs.{lists_unique, pairs_of, pairs_listed}
 use Rattle.promise.specs.declared.Session.{Session}
-use Rattle.promise.specs.declared.Counted.{Counted}
-use Rattle.promise.specs.declared.Counted.TheVariants.{Count}
+use Rattle.promise.specs.Calls.{Counted}
+use Rattle.promise.specs.Calls.Counted.{Count}
 use Rattle.promise.specs.Calls.{Owed, count_number, over, TooShort}
 use Rattle.promise.specs.Hierarchy.{Under, Equal, HeadOf, Head, Third, Direct, HeadsOf, StepsOf, StepBytes}
 use Rattle.promise.specs.Hierarchy.{hierarchy_refusals, hierarchy}

@@ -12,7 +12,7 @@ use lib.Seq.{get_or-drop, drop-drop}
 use Rattle.promise.proofs.Refusals.{stage}
 use Rattle.promise.specs.declared.Stage.{Stage}
 use Rattle.promise.specs.declared.Stage.TheVariants.{Start}
-use Rattle.promise.specs.Tell.{Kind}
+use Rattle.promise.specs.declared.Kind.{Kind}
 use Rattle.promise.specs.Book.{row_of, size_of, Item, facts_from, field_says, stage_behind, items_from, items_of}
 
 -- as many fields as there are bytes are enough

@@ -14,8 +14,8 @@ use Rattle.promise.specs.Refusals.{First, standing}
 use Rattle.order.proofs.Decide.{stable, both, either, negated, as_well, some_below, least}
 use Rattle.promise.proofs.Refusals.{stage, dec_too_short}
 use Rattle.promise.specs.declared.Session.{Session}
-use Rattle.promise.specs.declared.Counted.{Counted}
-use Rattle.promise.specs.declared.Counted.TheVariants.{Count}
+use Rattle.promise.specs.Calls.{Counted}
+use Rattle.promise.specs.Calls.Counted.{Count}
 use Rattle.promise.specs.Calls.{Owed, count_number, TooShort}
 use Rattle.promise.specs.Hierarchy.{Under, Equal, HeadOf, Head, Third, Direct, NextRung, Ladder, LadderOf}
 use Rattle.promise.specs.Hierarchy.{Above, Number, ladder_refusals, ladder}

@@ -18,8 +18,8 @@ use Rattle.order.proofs.Counting.{bit, bit_one, bit_none, bit_two, sum_add, sum_
 use Rattle.order.proofs.Counts.{open_settled, opens_none, opens_sum}
 use Rattle.promise.specs.Refusals.{First, standing}
 use Rattle.promise.specs.declared.Session.{Session}
-use Rattle.promise.specs.declared.Counted.{Counted}
-use Rattle.promise.specs.declared.Counted.TheVariants.{Count}
+use Rattle.promise.specs.Calls.{Counted}
+use Rattle.promise.specs.Calls.Counted.{Count}
 use Rattle.promise.specs.Calls.{started, Owed, count_number, over, TooShort}
 use Rattle.promise.specs.Book.{field, PairsMarked, BookOf, write_refusals, write}
 use Rattle.promise.proofs.Standing.{Stands, square_above, standing_own, standing_passed, stands_first}

@@ -19,15 +19,16 @@ use Rattle.order.proofs.Pairs.{lists_map}
 use Rattle.order.proofs.Steps.{or_cong}
 use Rattle.promise.specs.declared.Session.{Session}
 use Rattle.promise.specs.declared.Reply.{Reply}
-use Rattle.promise.specs.declared.Question.{Question}
-use Rattle.promise.specs.declared.Question.TheVariants.{Ask, Done, Refused}
-use Rattle.promise.specs.declared.Counted.{Counted}
-use Rattle.promise.specs.declared.Counted.TheVariants.{Count}
+use Rattle.promise.specs.Next.{Question}
+use Rattle.promise.specs.Next.Question.{Ask, Done, Refused}
+use Rattle.promise.specs.Calls.{Counted}
+use Rattle.promise.specs.Calls.Counted.{Count}
 use Rattle.promise.specs.declared.CrossedQuestion.{CrossedQuestion}
 use Rattle.promise.specs.declared.CrossedCount.{CrossedCount}
 use Rattle.promise.specs.Refusals.{standing}
 use Rattle.promise.specs.Calls.{tested, Owed, open_pairs, TooShort, count_for_c, writes_for_c}
-use Rattle.promise.specs.Tell.{Kind, adds, fresh_refusals, fresh, tell_refusals, tell}
+use Rattle.promise.specs.declared.Kind.{Kind}
+use Rattle.promise.specs.Tell.{adds, fresh_refusals, fresh, tell_refusals, tell}
 use Rattle.promise.specs.Clips.{ClipNo, clip_refusals, clip, flags_of, bytes_refusals, clip_bytes}
 use Rattle.promise.specs.Runs.{Intake, taking, Made, Run, calls_of}
 use Rattle.promise.specs.Next.{Names, next, next_for_c}

@@ -19,10 +19,11 @@ use Rattle.order.proofs.Sound.{is}
 use Rattle.order.proofs.Tables.{mark_against_settled}
 use Rattle.promise.specs.declared.Session.{Session}
 use Rattle.promise.specs.declared.Reply.{Reply}
-use Rattle.promise.specs.declared.Question.{Question}
-use Rattle.promise.specs.declared.Question.TheVariants.{Ask, Done, Refused}
+use Rattle.promise.specs.Next.{Question}
+use Rattle.promise.specs.Next.Question.{Ask, Done, Refused}
 use Rattle.promise.specs.Calls.{Owed}
-use Rattle.promise.specs.Tell.{Kind, adds, tell_refusals, tell}
+use Rattle.promise.specs.declared.Kind.{Kind}
+use Rattle.promise.specs.Tell.{adds, tell_refusals, tell}
 use Rattle.promise.specs.Next.{question_number, FirstOpen, NoneOpen, Names, next, Rounds}
 use Rattle.promise.proofs.Standing.{Stands, standing_passed, stands_first, standing_there}
 use Rattle.promise.proofs.Calls.{Fixed, owed_unique, owed_there}
@@ -108,7 +109,7 @@ next_there s t =
 -- the answer to the pair asked is accepted, whatever its verdict
 pub asked_accepted :
     {a b : ℕ} {v : Bool} {s : Session} {t : List ℕ} {r : Reply} {t' : List ℕ} → Owed (next s t) (Ask a b)
-    → Owed (tell Kind.answered s t (fact_on a b v)) (r, t') → r.number ≡ 0
+    → Owed (tell Kind.Answered s t (fact_on a b v)) (r, t') → r.number ≡ 0
 asked_accepted {a} {b} {v} {s} {t} {r} {t'} q h =
     go (stands_first (tell_refusals s t f) (standing_passed [] s q.number).0 h.number)
   where
@@ -124,16 +125,16 @@ asked_accepted {a} {b} {v} {s} {t} {r} {t'} q h =
 -- One round: it counts one test, settles an open pair at least, and leaves what can be asked of again.
 module _
     {s : Session} {t : List ℕ} {f : Fact} {r : Reply} {t₁ : List ℕ} (q : Owed (next s t) (Ask f.lower f.upper))
-    (h : Owed (tell Kind.answered s t f) (r, t₁)) where
+    (h : Owed (tell Kind.Answered s t f) (r, t₁)) where
   round_opens :
       (r.session.classes ≡ s.classes) × (r.session.tests ≡ s.tests + 1)
       × (1 + opens s.classes t₁ ≤ opens s.classes t)
   round_opens =
-      let one = ap (adds Kind.answered 0) (q.done refl).is_open in
-      rw one at (tell_opens Kind.answered h 0 (asked_accepted q h))
+      let one = ap (adds Kind.Answered 0) (q.done refl).is_open in
+      rw one at (tell_opens Kind.Answered h 0 (asked_accepted q h))
 
   round_stands : Stands s t → Stands r.session t₁
-  round_stands = leaves_keeps (tell_leaves Kind.answered h (asked_accepted q h))
+  round_stands = leaves_keeps (tell_leaves Kind.Answered h (asked_accepted q h))
 
 -- and so for rounds
 rounds_bounded :
@@ -157,7 +158,7 @@ rounds_tests (Rounds.round q h later) = omega (arith, rounds_tests later, (round
 -- as long as next asks, there is one round more, whatever the verdict
 pub rounds_then :
     {l : List Fact} {a b : ℕ} {v : Bool} {s s₁ : Session} {t t₁ t₂ : List ℕ} {r : Reply} → Rounds l s t s₁ t₁
-    → Owed (next s₁ t₁) (Ask a b) → Owed (tell Kind.answered s₁ t₁ (fact_on a b v)) (r, t₂)
+    → Owed (next s₁ t₁) (Ask a b) → Owed (tell Kind.Answered s₁ t₁ (fact_on a b v)) (r, t₂)
     → Rounds (l ++ fact_on a b v ∷ []) s t r.session t₂
 rounds_then Rounds.none q h = Rounds.round q h Rounds.none
 rounds_then (Rounds.round q₀ h₀ later) q h = Rounds.round q₀ h₀ (rounds_then later q h)
@@ -201,7 +202,7 @@ pub record AskingEnds (verdict : List Fact → ℕ → ℕ → Bool) (s : Sessio
 -- A pair is asked and gets its verdict: asking ends if it ends after that answer.
 module _
     (verdict : List Fact → ℕ → ℕ → Bool) {a b : ℕ} {s : Session} {t : List ℕ} {r : Reply} {t₁ : List ℕ}
-    (q : Owed (next s t) (Ask a b)) (h : Owed (tell Kind.answered s t (fact_on a b (verdict [] a b))) (r, t₁)) where
+    (q : Owed (next s t) (Ask a b)) (h : Owed (tell Kind.Answered s t (fact_on a b (verdict [] a b))) (r, t₁)) where
   abbrev answer : Fact
   answer = fact_on a b (verdict [] a b)
 
@@ -236,7 +237,7 @@ ends_if verdict s t st fewer = let q = next_there s t in go q.0 q.1
   where
     go : (q : Question) → Owed (next s t) q → AskingEnds verdict s t
     go (Ask a b) q =
-        let x = tell_there Kind.answered s t (fact_on a b (verdict [] a b)) in
+        let x = tell_there Kind.Answered s t (fact_on a b (verdict [] a b)) in
         let o = round_opens q x.1 in
         ends_later verdict q x.1 (fewer _ _ _ (round_stands q x.1 st) (rw o.0 (omega (arith, o.2))))
     go Done q =

@@ -20,7 +20,8 @@ use Rattle.order.proofs.Pairs.{pairs_of, pairs_listed}
 use Rattle.promise.specs.declared.Session.{Session}
 use Rattle.promise.specs.declared.Reply.{Reply}
 use Rattle.promise.specs.Calls.{refusal, Owed}
-use Rattle.promise.specs.Tell.{Kind, tell}
+use Rattle.promise.specs.declared.Kind.{Kind}
+use Rattle.promise.specs.Tell.{tell}
 use Rattle.promise.specs.Clips.{Flagged, ClipNo, MemberBeyond, clip}
 use Rattle.promise.specs.Runs.{StandsFor, Intake, taking, Said, AllFit, Made, Run, calls_of}
 use Rattle.promise.specs.Runs.{AllAccepted}
@@ -95,10 +96,10 @@ clip_listed n played = (noes_of pairs, λ f. (λ h. there f h, λ i. back f ((no
 -- The facts of a list, told one after the other.
 
 abbrev pub tells_of : List Fact → List Intake
-tells_of l = map (Intake.fact Kind.told) l
+tells_of l = map (Intake.fact Kind.Told) l
 
 tells_said : (n : ℕ) (l : List Fact) (f : Fact) → Said n (tells_of l) f ↔ Listed l f
-tells_said n l f = rw (map-id l) at (listed_said n (λ _. Kind.told) (λ g. g) l f)
+tells_said n l f = rw (map-id l) at (listed_said n (λ _. Kind.Told) (λ g. g) l f)
 
 tells_fit : (n : ℕ) (l : List Fact) → ((f : Fact) → Listed l f → Below n f) → AllFit n (tells_of l)
 tells_fit n [] all = tt
@@ -106,7 +107,7 @@ tells_fit n (f ∷ l) all = (all f (Memᴰ.head refl), tells_fit n l (λ g i. al
 
 -- tells leave the session as it is
 told_same :
-    {s : Session} {t : List ℕ} {f : Fact} {r : Reply} {t' : List ℕ} → Owed (tell Kind.told s t f) (r, t')
+    {s : Session} {t : List ℕ} {f : Fact} {r : Reply} {t' : List ℕ} → Owed (tell Kind.Told s t f) (r, t')
     → r.session ≡ s
 told_same {s = s} {r = r} h = go (ℕ_discrete r.number 0)
   where

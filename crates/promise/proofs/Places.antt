@@ -16,7 +16,8 @@ use Rattle.promise.specs.declared.Stage.TheVariants.{Start, Begun}
 use Rattle.promise.specs.declared.Session.{Session}
 use Rattle.promise.specs.declared.Reply.{Reply}
 use Rattle.promise.specs.Calls.{no_session}
-use Rattle.promise.specs.Tell.{Kind, fresh_refusals}
+use Rattle.promise.specs.declared.Kind.{Kind}
+use Rattle.promise.specs.Tell.{fresh_refusals}
 use Rattle.promise.specs.Book.{field_refusals, items_of, BookRead}
 use Rattle.promise.proofs.Fresh.{fresh_numbers}
 use Rattle.promise.proofs.Runs.{fresh_run_classes, fresh_run_rest}

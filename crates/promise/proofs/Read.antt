@@ -16,7 +16,8 @@ use Rattle.promise.specs.declared.Stage.TheVariants.{Start, Begun}
 use Rattle.promise.specs.declared.Session.{Session}
 use Rattle.promise.specs.declared.Reply.{Reply}
 use Rattle.promise.specs.Calls.{no_session, reply, Owed}
-use Rattle.promise.specs.Tell.{Kind, fresh_refusals, fresh, tell_refusals, tell}
+use Rattle.promise.specs.declared.Kind.{Kind}
+use Rattle.promise.specs.Tell.{fresh_refusals, fresh, tell_refusals, tell}
 use Rattle.promise.specs.Runs.{Intake, Made, Run, FromFresh}
 use Rattle.promise.specs.Book.{field_refusals, Item, items_of, fact_of, Ends, GoesOn, Follows, BookRead}
 use Rattle.promise.proofs.Standing.{Stands, stands_first}

@@ -22,10 +22,11 @@ use Rattle.order.proofs.Exactness.{possible_subset, table_possible}
 use Rattle.promise.specs.declared.Stage.TheVariants.{Start, Begun}
 use Rattle.promise.specs.declared.Session.{Session}
 use Rattle.promise.specs.declared.Reply.{Reply}
-use Rattle.promise.specs.declared.Counted.TheVariants.{Count}
+use Rattle.promise.specs.Calls.Counted.{Count}
 use Rattle.promise.specs.Calls.{no_session, started, accepted, Owed}
 use Rattle.promise.specs.Clips.{truth_of}
-use Rattle.promise.specs.Tell.{Kind, tell}
+use Rattle.promise.specs.declared.Kind.{Kind}
+use Rattle.promise.specs.Tell.{tell}
 use Rattle.promise.specs.Runs.{StandsFor, Intake}
 use Rattle.promise.specs.Book.{field_refusals, Item, items_of, fact_of, GoesOn, Follows, BookRead, field}
 use Rattle.promise.specs.Book.{PairsMarked, BookOf, write_refusals, write}
@@ -44,7 +45,7 @@ abbrev AllTold : Facts → List Item → Type 0
 AllTold S [] = Unit {0}
 AllTold S (Item.head p stage bytes ∷ items) = First (field_refusals stage bytes) 0 × AllTold S items
 AllTold S (Item.begin p m ∷ items) = ⊥
-AllTold S (Item.said p kind a b v ∷ items) = (kind ≡ Kind.told) × (v ≤ 1) × S (fact_of a b v) × AllTold S items
+AllTold S (Item.said p kind a b v ∷ items) = (kind ≡ Kind.Told) × (v ≤ 1) × S (fact_of a b v) × AllTold S items
 
 tells_told :
     (S : Facts) (v at : ℕ) (l : List Pair) (items : List Item) → v ≤ 1
@@ -79,7 +80,7 @@ module _ (n : ℕ) (G : Facts) (within : Within n G) (possible : Possible n G) w
       f : Fact
       f = fact_of a b v
 
-      told : Owed (tell Kind.told (started n) t f) (q, u)
+      told : Owed (tell Kind.Told (started n) t f) (q, u)
       told = rw l.0 at h
 
       more : (S with f) ⊆ G
@@ -88,7 +89,7 @@ module _ (n : ℕ) (G : Facts) (within : Within n G) (possible : Possible n G) w
 
       taken : q.number ≡ 0
       taken =
-          (intake_accepted (Intake.fact Kind.told f) (started n) t st (within f l.2) told).1
+          (intake_accepted (Intake.fact Kind.Told f) (started n) t st (within f l.2) told).1
           (possible_subset more possible)
 
       go :
@@ -99,7 +100,7 @@ module _ (n : ℕ) (G : Facts) (within : Within n G) (possible : Possible n G) w
       go (inl (k, e)) later = absurd (k taken)
       go (inr (k, e)) later =
           let same : q.session ≡ started n = changes_session told k in
-          let x = later (rw same at (leaves_stands (tell_leaves Kind.told told k) st)) (rw same at e) in
+          let x = later (rw same at (leaves_stands (tell_leaves Kind.Told told k) st)) (rw same at e) in
           (x.0, stands_equal (listed_with S f (facts_said items)) (with_listed S f (facts_said items)) x.1)
 
 -- "Read back, the marks are the same and the tally is 0."

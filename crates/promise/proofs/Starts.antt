@@ -9,11 +9,12 @@ use Prim.Native.Nat.{ℕ}
 use Rattle.order.specs.Facts.{Fact}
 use Rattle.promise.specs.declared.Session.{Session}
 use Rattle.promise.specs.declared.Reply.{Reply}
-use Rattle.promise.specs.declared.Question.{Question}
-use Rattle.promise.specs.declared.Counted.{Counted}
+use Rattle.promise.specs.Next.{Question}
+use Rattle.promise.specs.Calls.{Counted}
 use Rattle.promise.specs.Refusals.{Condition, First, standing}
 use Rattle.promise.specs.Calls.{Owed, count_number, open_pairs}
-use Rattle.promise.specs.Tell.{Kind, tell_refusals, tell}
+use Rattle.promise.specs.declared.Kind.{Kind}
+use Rattle.promise.specs.Tell.{tell_refusals, tell}
 use Rattle.promise.specs.Clips.{clip_refusals, clip, bytes_refusals, clip_bytes}
 use Rattle.promise.specs.Next.{question_number, next}
 use Rattle.promise.specs.Hierarchy.{hierarchy_refusals, hierarchy, ladder_refusals, ladder}

@@ -7,14 +7,14 @@ use Prim.Native.Nat.{ℕ, zero, suc}
 use Rattle.order.specs.Facts.{Fact, under, not_under}
 use Rattle.promise.specs.declared.Session.{Session}
 use Rattle.promise.specs.declared.Reply.{Reply}
-use Rattle.promise.specs.declared.Question.{Question}
-use Rattle.promise.specs.declared.Question.TheVariants.{Ask, Done}
-use Rattle.promise.specs.declared.Counted.{Counted}
-use Rattle.promise.specs.declared.Counted.TheVariants.{Count, Refused}
+use Rattle.promise.specs.Next.{Question}
+use Rattle.promise.specs.Next.Question.{Ask, Done}
+use Rattle.promise.specs.Calls.{Counted}
+use Rattle.promise.specs.Calls.Counted.{Count, Refused}
 use Rattle.promise.specs.declared.CrossedQuestion.{CrossedQuestion}
 use Rattle.promise.specs.declared.CrossedCount.{CrossedCount}
 use Rattle.promise.specs.Calls.{started}
-use Rattle.promise.specs.Tell.{Kind}
+use Rattle.promise.specs.declared.Kind.{Kind}
 
 -- a call with all that goes in
 pub data Input : Type 0 where
@@ -215,31 +215,31 @@ row Mark.p2_fresh = Input.fresh 3 (nines 9) gives (replied 0 0 (three 0), p2)
 row Mark.p2_open = Input.open_pairs (three 0) p2 gives Count 6
 row Mark.p2_asks = Input.next (three 0) p2 gives Ask 0 1
 -- P3
-row Mark.p3_told = Input.tell Kind.told (three 0) p2 (not_under 0 2) gives (replied 0 0 (three 0), p3)
+row Mark.p3_told = Input.tell Kind.Told (three 0) p2 (not_under 0 2) gives (replied 0 0 (three 0), p3)
 row Mark.p3_open = Input.open_pairs (three 0) p3 gives Count 5
 -- P4
-row Mark.p4_told = Input.tell Kind.told (three 0) p3 (under 0 1) gives (replied 0 0 (three 0), p4)
+row Mark.p4_told = Input.tell Kind.Told (three 0) p3 (under 0 1) gives (replied 0 0 (three 0), p4)
 row Mark.p4_open = Input.open_pairs (three 0) p4 gives Count 3
 -- P5
-row Mark.p5_refused = Input.tell Kind.told (three 0) p4 (under 1 2) gives (replied 6 0 (three 0), p4)
+row Mark.p5_refused = Input.tell Kind.Told (three 0) p4 (under 1 2) gives (replied 6 0 (three 0), p4)
 -- P6
-row Mark.p6_first_told = Input.tell Kind.told (three 0) p2 (under 0 1) gives (replied 0 0 (three 0), after_yes)
-row Mark.p6_told = Input.tell Kind.told (three 0) after_yes (under 1 2) gives (replied 0 0 (three 0), p6)
+row Mark.p6_first_told = Input.tell Kind.Told (three 0) p2 (under 0 1) gives (replied 0 0 (three 0), after_yes)
+row Mark.p6_told = Input.tell Kind.Told (three 0) after_yes (under 1 2) gives (replied 0 0 (three 0), p6)
 row Mark.p6_open = Input.open_pairs (three 0) p6 gives Count 3
 -- P7
-row Mark.p7_told = Input.tell Kind.told (three 0) p6 (not_under 2 0) gives (replied 0 0 (three 0), p7)
+row Mark.p7_told = Input.tell Kind.Told (three 0) p6 (not_under 2 0) gives (replied 0 0 (three 0), p7)
 row Mark.p7_open = Input.open_pairs (three 0) p7 gives Count 2
 row Mark.p7_asks = Input.next (three 0) p7 gives Ask 1 0
 -- P8
-row Mark.p8_told = Input.tell Kind.told (three 0) p7 (under 2 1) gives (replied 0 0 (three 0), p8)
+row Mark.p8_told = Input.tell Kind.Told (three 0) p7 (under 2 1) gives (replied 0 0 (three 0), p8)
 row Mark.p8_open = Input.open_pairs (three 0) p8 gives Count 0
 row Mark.p8_done = Input.next (three 0) p8 gives Done
 row Mark.p8_hierarchy =
     Input.hierarchy (three 0) p8 (nines 4) (nines 3) gives (Count 1, (0 ∷ 1 ∷ 1 ∷ 9 ∷ [], 0 ∷ 1 ∷ 9 ∷ []))
 -- P9
-row Mark.p9_refused = Input.tell Kind.told (three 0) p2 (not_under 1 1) gives (replied 6 0 (three 0), p2)
+row Mark.p9_refused = Input.tell Kind.Told (three 0) p2 (not_under 1 1) gives (replied 6 0 (three 0), p2)
 -- P10
-row Mark.p10_answered = Input.tell Kind.answered (three 0) p2 (under 1 1) gives (replied 0 0 (three 0), p2)
+row Mark.p10_answered = Input.tell Kind.Answered (three 0) p2 (under 1 1) gives (replied 0 0 (three 0), p2)
 -- P11
 row Mark.p11_read =
     Input.read (1 ∷ 0 ∷ 1 ∷ 4 ∷ 2 ∷ 0 ∷ 8 ∷ 0 ∷ 1 ∷ 0 ∷ 2 ∷ 1 ∷ 3 ∷ 2 ∷ 3 ∷ 3 ∷ 0 ∷ 4 ∷ 1 ∷ 2 ∷ 2 ∷ 1 ∷ []) (nines 16)
@@ -253,10 +253,10 @@ row Mark.p11_not_under = Input.ladder four p11 1 2 (nines 3) gives (Refused 9 0,
 row Mark.p12_written = Input.write (three 0) p8 (nines 22) gives (Count 22, p12)
 row Mark.p12_read = book p12 gives (replied 0 0 (three 0), p8)
 -- an answer counts on an open pair, not on a settled one, nor where it is refused
-row Mark.answer_open = Input.tell Kind.answered (three 0) p7 (under 2 1) gives (replied 0 0 (three 1), p8)
-row Mark.answer_settled = Input.tell Kind.answered (three 1) p8 (under 0 2) gives (replied 0 0 (three 1), p8)
-row Mark.answer_draws = Input.tell Kind.answered (three 0) p3 (under 0 1) gives (replied 0 0 (three 1), p4)
-row Mark.answer_refused = Input.tell Kind.answered (three 0) p4 (under 1 2) gives (replied 6 0 (three 0), p4)
+row Mark.answer_open = Input.tell Kind.Answered (three 0) p7 (under 2 1) gives (replied 0 0 (three 1), p8)
+row Mark.answer_settled = Input.tell Kind.Answered (three 1) p8 (under 0 2) gives (replied 0 0 (three 1), p8)
+row Mark.answer_draws = Input.tell Kind.Answered (three 0) p3 (under 0 1) gives (replied 0 0 (three 1), p4)
+row Mark.answer_refused = Input.tell Kind.Answered (three 0) p4 (under 1 2) gives (replied 6 0 (three 0), p4)
 -- class counts, tables and tallies: refusals 1 to 4, each before those that follow
 row Mark.fresh_no_class = Input.fresh 0 (nines 1) gives (replied 1 0 nothing, nines 1)
 row Mark.fresh_129_classes = Input.fresh 129 (nines 1) gives (replied 1 0 nothing, nines 1)
@@ -273,11 +273,11 @@ row Mark.open_short_table = Input.open_pairs (three 0) (nines 8) gives Refused 2
 row Mark.open_not_sound = Input.open_pairs (three 0) unsound gives Refused 3 0
 row Mark.open_overcounted = Input.open_pairs (three 1) p2 gives Refused 4 0
 row Mark.tell_129_classes =
-    Input.tell Kind.told (session_of 129 5) [] (under 0 0) gives (replied 1 0 (session_of 129 5), [])
-row Mark.tell_overcounted_first = Input.tell Kind.told (three 1) p2 (under 0 3) gives (replied 4 0 (three 1), p2)
-row Mark.tell_lower_beyond = Input.tell Kind.told (three 0) p2 (under 3 0) gives (replied 5 0 (three 0), p2)
-row Mark.tell_upper_beyond = Input.tell Kind.told (three 0) p2 (under 0 3) gives (replied 5 0 (three 0), p2)
-row Mark.tell_contradicts_beyond = Input.tell Kind.told (three 0) p4 (under 0 5) gives (replied 5 0 (three 0), p4)
+    Input.tell Kind.Told (session_of 129 5) [] (under 0 0) gives (replied 1 0 (session_of 129 5), [])
+row Mark.tell_overcounted_first = Input.tell Kind.Told (three 1) p2 (under 0 3) gives (replied 4 0 (three 1), p2)
+row Mark.tell_lower_beyond = Input.tell Kind.Told (three 0) p2 (under 3 0) gives (replied 5 0 (three 0), p2)
+row Mark.tell_upper_beyond = Input.tell Kind.Told (three 0) p2 (under 0 3) gives (replied 5 0 (three 0), p2)
+row Mark.tell_contradicts_beyond = Input.tell Kind.Told (three 0) p4 (under 0 5) gives (replied 5 0 (three 0), p4)
 -- buffers that just fit, and one byte less; the order of refusals
 row Mark.hierarchy_short_steps = Input.hierarchy four p11 (nines 4) (nines 7) gives (Refused 8 0, (nines 4, nines 7))
 row Mark.hierarchy_short_heads = Input.hierarchy four p11 (nines 3) (nines 8) gives (Refused 8 0, (nines 3, nines 8))

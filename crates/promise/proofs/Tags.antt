@@ -16,15 +16,15 @@ use Rattle.order.proofs.Decide.{stable}
 use Rattle.promise.proofs.Refusals.{stage as judge}
 use Rattle.promise.specs.declared.Stage.{Stage}
 use Rattle.promise.specs.declared.Stage.TheVariants.{Start, Begun}
-use Rattle.promise.specs.Tell.{Kind}
+use Rattle.promise.specs.declared.Kind.{Kind}
 use Rattle.promise.specs.Book.{at_start, once_begun, count_row, facts_row, Lookup, row_of, length_of, size_of}
 use Rattle.promise.specs.Book.{row_refusals, field_refusals}
 
 -- the tags of facts: how many bytes a fact has, how it is taken, and its verdict
 pub data FactsTag : ℕ → ℕ → Kind → (List ℕ → ℕ) → Type 0 where
-  yes_facts : FactsTag 2 2 Kind.told (λ bytes. 1)
-  no_facts : FactsTag 3 2 Kind.told (λ bytes. 0)
-  answers : FactsTag 4 3 Kind.answered (λ bytes. get_or bytes 2 0)
+  yes_facts : FactsTag 2 2 Kind.Told (λ bytes. 1)
+  no_facts : FactsTag 3 2 Kind.Told (λ bytes. 0)
+  answers : FactsTag 4 3 Kind.Answered (λ bytes. get_or bytes 2 0)
 
 -- 1 is the tag of the class count, 2 to 4 are the tags of facts, and there is no other
 pub data RowIs (tag : ℕ) : Lookup → Type 0 where

@@ -23,7 +23,8 @@ use Rattle.order.proofs.Taking.{taken_in, taken_table, new_mark, length_laid}
 use Rattle.promise.specs.declared.Session.{Session}
 use Rattle.promise.specs.declared.Reply.{Reply}
 use Rattle.promise.specs.Calls.{tested, accepted, Owed, over}
-use Rattle.promise.specs.Tell.{Kind, adds, tell_refusals, tell}
+use Rattle.promise.specs.declared.Kind.{Kind}
+use Rattle.promise.specs.Tell.{adds, tell_refusals, tell}
 use Rattle.promise.specs.Runs.{StandsFor}
 use Rattle.promise.proofs.Standing.{Stands, standing_passed, stands_first, first_stands, standing_there}
 use Rattle.promise.proofs.Standing.{below_of}
@@ -100,9 +101,9 @@ agreeing_accepted kind {s} {t} {f} st m =
     })
   where
     none_added : (kind : Kind) (k : ℕ) → k ≢ 0 → adds kind 0 k ≡ 0
-    none_added Kind.told k z = refl
-    none_added Kind.answered zero z = absurd (z refl)
-    none_added Kind.answered (suc k) z = refl
+    none_added Kind.Told k z = refl
+    none_added Kind.Answered zero z = absurd (z refl)
+    none_added Kind.Answered (suc k) z = refl
 
     settled : mark s.classes t f.lower f.upper ≢ 0
     settled z = mark_for_settled f.holds (sym m.settled ∙ z)
@@ -130,16 +131,16 @@ tell_opens kind {s} {t} {f} {r} {t'} h zero e =
     )
   where
     few : (kind : Kind) (m : ℕ) → adds kind 0 m ≤ open_count m
-    few Kind.told m = omega arith
-    few Kind.answered zero = omega arith
-    few Kind.answered (suc m) = omega arith
+    few Kind.Told m = omega arith
+    few Kind.Answered zero = omega arith
+    few Kind.Answered (suc m) = omega arith
 tell_opens kind {s} {t} {f} {r} {t'} h (suc k) e =
     let q = changes_kept h (λ z. omega arith) in
     rw (q.0, q.1, none kind) (refl, omega arith, omega arith)
   where
     none : (kind : Kind) → adds kind (suc k) (mark s.classes t f.lower f.upper) ≡ 0
-    none Kind.told = refl
-    none Kind.answered = refl
+    none Kind.Told = refl
+    none Kind.Answered = refl
 
 -- what an accepted fact leaves
 pub tell_leaves :

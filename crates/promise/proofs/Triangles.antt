@@ -11,7 +11,7 @@ use Rattle.order.specs.Tables.{Sound, opens, Pair}
 use Rattle.promise.specs.Refusals.{First}
 use Rattle.order.proofs.Pairs.{length_bytes}
 use Rattle.promise.specs.declared.Session.{Session}
-use Rattle.promise.specs.declared.Counted.{Counted}
+use Rattle.promise.specs.Calls.{Counted}
 use Rattle.promise.specs.Calls.{Owed, count_number, TooShort}
 use Rattle.promise.specs.Hierarchy.{Under, Direct, HeadsOf, StepsOf, StepBytes, hierarchy_refusals, hierarchy}
 use Rattle.promise.proofs.Standing.{Stands, square, standing_own, first_stands}

@@ -14,7 +14,7 @@ use Rattle.promise.proofs.Refusals.{stage, dec_too_short}
 use Rattle.order.proofs.Pairs.{lists_unique, lists_map, pairs_of, pairs_listed}
 use Rattle.order.proofs.Sound.{is}
 use Rattle.promise.specs.declared.Session.{Session}
-use Rattle.promise.specs.declared.Counted.{Counted}
+use Rattle.promise.specs.Calls.{Counted}
 use Rattle.promise.specs.Calls.{Owed, TooShort}
 use Rattle.promise.specs.Book.{field, PairsMarked, BookOf, write_refusals, write}
 use Rattle.promise.proofs.Standing.{standing_passed, standing_there}

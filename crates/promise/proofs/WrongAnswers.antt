@@ -13,12 +13,13 @@ use Rattle.order.specs.Tables.{mark, Marks, Contradicts, Fresh, mark_for, mark_a
 use Rattle.order.proofs.Sets.{yes_not_no}
 use Rattle.promise.specs.declared.Session.{Session}
 use Rattle.promise.specs.declared.Reply.{Reply}
-use Rattle.promise.specs.declared.Question.TheVariants.{Ask, Done}
-use Rattle.promise.specs.declared.Counted.TheVariants.{Count}
+use Rattle.promise.specs.Next.Question.{Ask, Done}
+use Rattle.promise.specs.Calls.Counted.{Count}
 use Rattle.promise.specs.declared.CrossedQuestion.{CrossedQuestion}
 use Rattle.promise.specs.declared.CrossedCount.{CrossedCount}
 use Rattle.promise.specs.Calls.{Call, Owed, count_number, open_pairs, count_for_c, writes_for_c}
-use Rattle.promise.specs.Tell.{Kind, fresh, tell}
+use Rattle.promise.specs.declared.Kind.{Kind}
+use Rattle.promise.specs.Tell.{fresh, tell}
 use Rattle.promise.specs.Clips.{ClipNo, clip, clip_bytes}
 use Rattle.promise.specs.Next.{next, next_for_c}
 use Rattle.promise.specs.Hierarchy.{hierarchy, ladder}
@@ -112,9 +113,9 @@ abbrev pub tell_contract : Kind → Contract
 tell_contract kind =
     of_call {I = Session × List ℕ × Fact} (λ i. tell kind i.0 i.1 i.2) (λ i o o₂. tell_unique kind)
 
-pub tell_rejects : Rejected (tell_contract Kind.told) (λ o. o.0) (λ i o. o.1 ≡ i.1)
+pub tell_rejects : Rejected (tell_contract Kind.Told) (λ o. o.0) (λ i o. o.1 ≡ i.1)
 tell_rejects =
-    rejected (tell_contract Kind.told) (three 0, p3, under 0 1) (three 0, p4, under 1 2) (met Mark.p4_told) refl
+    rejected (tell_contract Kind.Told) (three 0, p3, under 0 1) (three 0, p4, under 1 2) (met Mark.p4_told) refl
     (λ e. omega (arith, ap (byte 1) e)) (met Mark.p5_refused) (λ e. omega (arith, ap number_of e))
 
 -- Storing a fact on a table that is not fresh, and nothing more.
@@ -135,36 +136,36 @@ not_stores kind owed e =
     never (tell_contract kind) MerelyStores (three 0, p3, under 0 1) owed (λ stores.
     omega (arith, ap (byte 5) (stores not_fresh e)))
 
-pub tell_not_stores : Never (tell_contract Kind.told) MerelyStores
-tell_not_stores = not_stores Kind.told (met Mark.p4_told) refl
+pub tell_not_stores : Never (tell_contract Kind.Told) MerelyStores
+tell_not_stores = not_stores Kind.Told (met Mark.p4_told) refl
 
-pub answer_not_stores : Never (tell_contract Kind.answered) MerelyStores
-answer_not_stores = not_stores Kind.answered (met Mark.answer_draws) refl
+pub answer_not_stores : Never (tell_contract Kind.Answered) MerelyStores
+answer_not_stores = not_stores Kind.Answered (met Mark.answer_draws) refl
 
 -- an answer on an open pair, and one on a settled pair: the tally is no constant, 0 or any other
-pub answer_rejects : Rejected (tell_contract Kind.answered) (λ o. o.0.session.tests) (λ i o. o.1 ≡ i.1)
+pub answer_rejects : Rejected (tell_contract Kind.Answered) (λ o. o.0.session.tests) (λ i o. o.1 ≡ i.1)
 answer_rejects =
-    rejected (tell_contract Kind.answered) (three 0, p7, under 2 1) (three 0, p2, under 1 1) (met Mark.answer_open) refl
+    rejected (tell_contract Kind.Answered) (three 0, p7, under 2 1) (three 0, p2, under 1 1) (met Mark.answer_open) refl
     (λ e. omega (arith, ap (byte 3) e)) (met Mark.p10_answered) (λ e. omega arith)
 
 -- an answer that never counts, one that counts every accepted fact, one that counts refused ones
-pub answer_counts : Never (tell_contract Kind.answered) (λ i o. o.0.session.tests ≡ i.0.tests)
+pub answer_counts : Never (tell_contract Kind.Answered) (λ i o. o.0.session.tests ≡ i.0.tests)
 answer_counts =
-    never (tell_contract Kind.answered) (λ i o. o.0.session.tests ≡ i.0.tests) (three 0, p7, under 2 1)
+    never (tell_contract Kind.Answered) (λ i o. o.0.session.tests ≡ i.0.tests) (three 0, p7, under 2 1)
     (met Mark.answer_open) (λ e. omega arith)
 
 -- the tally grows by one where the number is k
 abbrev pub CountsAt : ℕ → Session × List ℕ × Fact → Reply × List ℕ → Type 0
 CountsAt k i o = o.0.number ≡ k → o.0.session.tests ≡ i.0.tests + 1
 
-pub answer_counts_open : Never (tell_contract Kind.answered) (CountsAt 0)
+pub answer_counts_open : Never (tell_contract Kind.Answered) (CountsAt 0)
 answer_counts_open =
-    never (tell_contract Kind.answered) (CountsAt 0) (three 0, p2, under 1 1) (met Mark.p10_answered)
+    never (tell_contract Kind.Answered) (CountsAt 0) (three 0, p2, under 1 1) (met Mark.p10_answered)
     (λ e. omega (arith, e refl))
 
-pub answer_counts_accepted : Never (tell_contract Kind.answered) (CountsAt 6)
+pub answer_counts_accepted : Never (tell_contract Kind.Answered) (CountsAt 6)
 answer_counts_accepted =
-    never (tell_contract Kind.answered) (CountsAt 6) (three 0, p4, under 1 2) (met Mark.answer_refused)
+    never (tell_contract Kind.Answered) (CountsAt 6) (three 0, p4, under 1 2) (met Mark.answer_refused)
     (λ e. omega (arith, e refl))
 
 -- clip

@@ -1,18 +1,20 @@
 -- Fact books: what the bytes of one say, reading and writing. Document 01, "The fact book".
 -- Assumes nothing.
 use Rattle.std.specs.Prelude.{◌≡◌, ◌≢◌, ◌⊎◌, Bool, true, false, List, [], ◌∷◌, ◌++◌, ℕ, zero, suc, ◌+◌, ◌*◌, ◌-◌, ◌/◌}
-use Rattle.std.specs.Prelude.{◌%◌, ◌<◌, eqb, length, get_or, drop}
+use Rattle.std.specs.Prelude.{◌%◌, ◌<◌, eqb, length, get_or, drop, Result, Ok, Err}
 use Rattle.promise.specs.Refusals.{Condition, First, cut_short, unknown_tag, misplaced_tag, bad_length, bad_verdict}
-use Rattle.promise.specs.Refusals.{standing, no_room}
+use Rattle.promise.specs.Refusals.{standing, no_room, number_of}
 use Rattle.order.specs.Facts.{Fact, fact_on}
 use Rattle.order.specs.Tables.{mark, Pair, Lists, bytes_of}
 use Rattle.promise.specs.declared.Stage.{Stage}
 use Rattle.promise.specs.declared.Stage.TheVariants.{Start, Begun}
 use Rattle.promise.specs.declared.Session.{Session}
+use Rattle.promise.specs.declared.RefusedBook.{RefusedBook}
 use Rattle.promise.specs.declared.Reply.{Reply}
-use Rattle.promise.specs.declared.Counted.{Counted}
-use Rattle.promise.specs.Tell.{Kind, fresh, tell}
-use Rattle.promise.specs.Calls.{no_session, reply, Owed, Call, TooShort, writes}
+use Rattle.promise.specs.Calls.{Counted}
+use Rattle.promise.specs.declared.Kind.{Kind}
+use Rattle.promise.specs.Tell.{fresh, tell}
+use Rattle.promise.specs.Calls.{no_session, accepted, reply, Owed, Call, TooShort, writes}
 use Rattle.promise.specs.Clips.{truth_of}
 
 -- a field's contents: a class count, or facts of one kind, so many bytes each, with the verdict that their bytes give
@@ -56,9 +58,9 @@ facts_row tag width kind verdict =
 abbrev pub tags : List TagRow
 tags =
     count_row 1
-    ∷ facts_row 2 2 Kind.told (λ bytes. 1)
-    ∷ facts_row 3 2 Kind.told (λ bytes. 0)
-    ∷ facts_row 4 3 Kind.answered (λ bytes. get_or bytes 2 0)
+    ∷ facts_row 2 2 Kind.Told (λ bytes. 1)
+    ∷ facts_row 3 2 Kind.Told (λ bytes. 0)
+    ∷ facts_row 4 3 Kind.Answered (λ bytes. get_or bytes 2 0)
     ∷ []
 
 -- the row of a tag, or that it has none
@@ -170,6 +172,11 @@ Follows (Item.said place kind a b v ∷ items) s t r t' =
     × GoesOn k place s t r t'
     ((r₁ : Reply) × (t₁ : List ℕ) × Owed (tell kind s t (fact_of a b v)) (r₁, t₁)
     × GoesOn r₁.number place r₁.session t₁ r t' (Follows items r₁.session t₁ r t'))
+
+-- what an answer of the code replies: a refusal has its place, and the session after the facts before it
+abbrev pub reply_of_read : Result Session RefusedBook → Reply
+reply_of_read (Ok s) = accepted s
+reply_of_read (Err refused) = reply (number_of refused.why) refused.place refused.session
 
 -- read, given a book and the table t, replies r, and the table is then t'
 pub record BookRead (book t : List ℕ) (r : Reply) (t' : List ℕ) : Type 0 where

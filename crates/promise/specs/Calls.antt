@@ -1,12 +1,11 @@
 -- Sessions and replies, which nothing else builds; and what every call outside reading owes, in one form.
 -- Assumes nothing.
-use Rattle.std.specs.Prelude.{◌≡◌, ◌≢◌, List, [], ◌++◌, ℕ, ◌+◌, ◌<◌, length, drop}
+use Rattle.std.specs.Prelude.{◌≡◌, ◌≢◌, List, [], ◌++◌, ℕ, ◌+◌, ◌<◌, length, drop, Result, Ok, Err}
 use Rattle.order.specs.Tables.{SameRest, opens}
-use Rattle.promise.specs.Refusals.{Condition, First, standing}
+use Rattle.promise.specs.Refusals.{Condition, First, standing, number_of}
+use Rattle.promise.specs.declared.Refusal.{Refusal}
 use Rattle.promise.specs.declared.Session.{Session}
 use Rattle.promise.specs.declared.Reply.{Reply}
-use Rattle.promise.specs.declared.Counted.{Counted}
-use Rattle.promise.specs.declared.Counted.TheVariants.{Count, Refused}
 use Rattle.promise.specs.declared.CrossedCount.{CrossedCount}
 
 -- the session of a fresh table
@@ -31,6 +30,11 @@ refusal number s = reply number 0 s
 
 abbrev pub accepted : Session → Reply
 accepted s = reply 0 0 s
+
+-- what an answer of the code replies where a refusal gives this session back
+abbrev pub reply_of : Session → Result Session Refusal → Reply
+reply_of back (Ok s) = accepted s
+reply_of back (Err why) = refusal (number_of why) back
 
 -- A call: its refusals, in order; the number of an outcome, 0 where it is accepted; all that a refusal with a number
 -- leaves; and what success leaves. An outcome is all that the caller sees afterwards: the answer and every lent byte.
@@ -72,10 +76,21 @@ crossing {Outcome} image number call =
       Done = λ o. (before : Outcome) × call.Done before × (o ≡ image before);
     }
 
+-- What the calls that count answer: how many pairs are open, how many steps, rungs or bytes were written, or a refusal
+-- with its number and place.
+pub data Counted : Type 0 where
+  Count : (count : ℕ) → Counted
+  Refused : (number place : ℕ) → Counted
+
 -- the refusal number of each answer
 abbrev pub count_number : Counted → ℕ
-count_number (Count c) = 0
-count_number (Refused number place) = number
+count_number (Counted.Count c) = 0
+count_number (Counted.Refused number place) = number
+
+-- what an answer of the code counts, with place 0 where it is a refusal
+abbrev pub count_of : Result ℕ Refusal → Counted
+count_of (Ok c) = Counted.Count c
+count_of (Err why) = Counted.Refused (number_of why) 0
 
 -- how many pairs are open, with session s and table t
 abbrev pub open_pairs : Session → List ℕ → Call Counted
@@ -83,8 +98,8 @@ open_pairs s t =
     record {
       refusals = standing s t [];
       number = count_number;
-      refused = λ k. Refused k 0;
-      Done = λ r. r ≡ Count (opens s.classes t);
+      refused = λ k. Counted.Refused k 0;
+      Done = λ r. r ≡ Counted.Count (opens s.classes t);
     }
 
 -- the bytes w written to the front of out: "bytes past those written keep their values"
@@ -101,14 +116,14 @@ writes refusals P out =
     record {
       refusals = refusals;
       number = λ o. count_number o.0;
-      refused = λ k. (Refused k 0, out);
-      Done = λ o. (w : List ℕ) × P w × (o ≡ (Count (length w), over w out));
+      refused = λ k. (Counted.Refused k 0, out);
+      Done = λ o. (w : List ℕ) × P w × (o ≡ (Counted.Count (length w), over w out));
     }
 
 -- the count that C gets: 01's number and place, and the count, 0 where there is none
 abbrev pub count_for : Counted → CrossedCount
-count_for (Count c) = record { number = 0; place = 0; count = c }
-count_for (Refused number place) = record { number = number; place = place; count = 0 }
+count_for (Counted.Count c) = record { number = 0; place = 0; count = c }
+count_for (Counted.Refused number place) = record { number = number; place = place; count = 0 }
 
 abbrev pub count_for_c : Call Counted → Call CrossedCount
 count_for_c = crossing count_for (λ r. r.number)

@@ -4,8 +4,8 @@ use Rattle.std.specs.Prelude.{◌≡◌, ◌≢◌, ◌⊎◌, List, [], ◌∷�
 use Rattle.order.specs.Tables.{mark, Pair, Lists, bytes_of}
 use Rattle.promise.specs.Refusals.{Condition, standing, still_open, no_room, no_such_class, no_ladder}
 use Rattle.promise.specs.declared.Session.{Session}
-use Rattle.promise.specs.declared.Counted.{Counted}
-use Rattle.promise.specs.declared.Counted.TheVariants.{Count, Refused}
+use Rattle.promise.specs.Calls.{Counted}
+use Rattle.promise.specs.Calls.Counted.{Count, Refused}
 use Rattle.promise.specs.Calls.{Call, count_number, over, TooShort, writes}
 
 -- a is under b

@@ -1,8 +1,12 @@
 -- Refusals in order, and document 01's refusal numbers, each with its "When, exactly": no other definition has one.
 -- Assumes nothing.
-use Rattle.std.specs.Prelude.{◌≡◌, ◌≢◌, ◌⊎◌, List, [], ◌∷◌, ℕ, ◌+◌, ◌*◌, ◌-◌, ◌<◌, length}
+use Rattle.std.specs.Prelude.{◌≡◌, ◌≢◌, ◌⊎◌, List, [], ◌∷◌, ℕ, ◌+◌, ◌*◌, ◌-◌, ◌<◌, length, Result, Ok, Err}
 use Rattle.order.specs.Tables.{mark, Sound, opens}
 use Rattle.promise.specs.declared.Session.{Session}
+use Rattle.promise.specs.declared.Refusal.{Refusal}
+use Rattle.promise.specs.declared.Refusal.TheVariants.{BadCount, ShortTable, NotSound, Overcounted as TooManyTests}
+use Rattle.promise.specs.declared.Refusal.TheVariants.{NoSuchClass, Contradicted, StillOpen, NoRoom, NoLadder, CutShort}
+use Rattle.promise.specs.declared.Refusal.TheVariants.{UnknownTag, MisplacedTag, BadLength, BadVerdict, TooLong}
 
 -- a refusal number, and when it is given
 pub record Condition : Type 1 where
@@ -81,3 +85,26 @@ too_long size = record { number = 15; when = 32768 < size }
 abbrev pub standing : Session → List ℕ → List Condition → List Condition
 standing s t own =
     bad_count s.classes ∷ short_table s.classes t ∷ not_sound s.classes t ∷ overcounted s t ∷ own
+
+-- the number of each refusal of the code is that of its condition
+abbrev pub number_of : Refusal → ℕ
+number_of BadCount = (bad_count 0).number
+number_of ShortTable = (short_table 0 []).number
+number_of NotSound = (not_sound 0 []).number
+number_of TooManyTests = 4
+number_of NoSuchClass = (no_such_class (Unit {0})).number
+number_of Contradicted = (contradicted (Unit {0})).number
+number_of StillOpen = (still_open 0 []).number
+number_of NoRoom = (no_room (Unit {0})).number
+number_of NoLadder = (no_ladder 0 [] 0 0).number
+number_of CutShort = (cut_short (Unit {0})).number
+number_of UnknownTag = (unknown_tag (Unit {0})).number
+number_of MisplacedTag = (misplaced_tag (Unit {0})).number
+number_of BadLength = (bad_length (Unit {0})).number
+number_of BadVerdict = (bad_verdict 0).number
+number_of TooLong = (too_long 0).number
+
+-- the number of an answer of the code, 0 where it is no refusal
+abbrev pub number_by : {A : Type 0} → Result A Refusal → ℕ
+number_by (Ok a) = 0
+number_by (Err why) = number_of why

@@ -8,7 +8,8 @@ use Rattle.promise.specs.Refusals.{First, standing}
 use Rattle.promise.specs.declared.Session.{Session}
 use Rattle.promise.specs.declared.Reply.{Reply}
 use Rattle.promise.specs.Calls.{Call, Owed}
-use Rattle.promise.specs.Tell.{Kind, adds, fresh, tell}
+use Rattle.promise.specs.declared.Kind.{Kind}
+use Rattle.promise.specs.Tell.{adds, fresh, tell}
 use Rattle.promise.specs.Clips.{ClipNo, MemberBeyond, clip}
 
 -- The table t is that of the facts of S, with a session that it can be used with: refusals 1 to 4 are not due.

@@ -4,6 +4,7 @@ use Rattle.std.specs.Prelude.{◌⊎◌, List, [], ◌∷◌, ℕ, zero, suc, �
 use Rattle.order.specs.Facts.{Fact, ◌with◌}
 use Rattle.order.specs.Tables.{mark, TableOf, Marks, Contradicts, Fresh}
 use Rattle.promise.specs.Refusals.{Condition, standing, no_such_class, contradicted, bad_count, short_table}
+use Rattle.promise.specs.declared.Kind.{Kind}
 use Rattle.promise.specs.declared.Session.{Session}
 use Rattle.promise.specs.declared.Reply.{Reply}
 use Rattle.promise.specs.Calls.{tested, no_session, started, Call, changes}
@@ -16,18 +17,13 @@ fresh_refusals n t = bad_count n ∷ short_table n t ∷ []
 abbrev pub fresh : ℕ → List ℕ → Call (Reply × List ℕ)
 fresh n t = changes (fresh_refusals n t) no_session (started n) n (Fresh n) t
 
--- the two ways to take in a fact
-pub data Kind : Type 0 where
-  told : Kind
-  answered : Kind
-
 -- "Tell takes a fact and never counts. Answer takes a fact and adds one to the tally exactly when that pair was open
 -- before the call and the fact is accepted": what a call adds, by its refusal number and the mark of its pair before
 abbrev pub adds : Kind → ℕ → ℕ → ℕ
-adds Kind.told number m = 0
-adds Kind.answered zero zero = 1
-adds Kind.answered zero (suc m) = 0
-adds Kind.answered (suc k) m = 0
+adds Kind.Told number m = 0
+adds Kind.Answered zero zero = 1
+adds Kind.Answered zero (suc m) = 0
+adds Kind.Answered (suc k) m = 0
 
 -- "tell and answer 5, 6"
 abbrev pub tell_refusals : Session → List ℕ → Fact → List Condition

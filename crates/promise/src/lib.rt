@@ -3,7 +3,7 @@
 
 // The class count, and the tally of tests.
 #[repr(C)]
-#[derive(Clone, Copy)]
+#[derive(Clone, Copy, Debug, PartialEq, Eq)]
 pub struct Session {
     pub classes: usize,
     pub tests: usize,
@@ -15,7 +15,49 @@ pub struct Clip {
     pub played: [bool; MOST_CLASSES],
 }
 
-// What fresh, tell, answer, clip and read give: the refusal number, 0 where the call was accepted; its place, 0
+// The two ways to take in a fact: it is told, or given as an answer.
+#[derive(Clone, Copy, Debug, PartialEq, Eq)]
+pub enum Kind {
+    Told,
+    Answered,
+}
+
+// The pair that next asks about.
+#[derive(Clone, Copy, Debug, PartialEq, Eq)]
+pub struct Asked {
+    pub lower: usize,
+    pub upper: usize,
+}
+
+// Why a call is refused, each with its refusal number.
+#[derive(Clone, Copy, Debug, PartialEq, Eq)]
+pub enum Refusal {
+    BadCount = 1,
+    ShortTable = 2,
+    NotSound = 3,
+    Overcounted = 4,
+    NoSuchClass = 5,
+    Contradicted = 6,
+    StillOpen = 7,
+    NoRoom = 8,
+    NoLadder = 9,
+    CutShort = 10,
+    UnknownTag = 11,
+    MisplacedTag = 12,
+    BadLength = 13,
+    BadVerdict = 14,
+    TooLong = 15,
+}
+
+// A refused book: why, at which place, and the session after the facts before that place.
+#[derive(Clone, Copy, Debug, PartialEq, Eq)]
+pub struct RefusedBook {
+    pub why: Refusal,
+    pub place: usize,
+    pub session: Session,
+}
+
+// What fresh, tell, answer, clip and read give to C: the refusal number, 0 where the call was accepted; its place, 0
 // outside books; the session that holds from now on.
 #[repr(C)]
 #[derive(Clone, Copy)]
@@ -23,22 +65,6 @@ pub struct Reply {
     pub number: u8,
     pub place: usize,
     pub session: Session,
-}
-
-// What next gives: the pair to ask about, that none is open, or a refusal with its number and place.
-#[derive(Clone, Copy)]
-pub enum Question {
-    Ask { lower: usize, upper: usize },
-    Done,
-    Refused { number: u8, place: usize },
-}
-
-// What the calls that count give: how many pairs are open, how many steps, rungs or bytes were written, or a refusal
-// with its number and place.
-#[derive(Clone, Copy)]
-pub enum Counted {
-    Count(usize),
-    Refused { number: u8, place: usize },
 }
 
 // What next gives to C: the refusal number, 0 where there is none, and its place; whether a pair is asked about, and
@@ -70,45 +96,14 @@ pub enum Stage {
     Begun,
 }
 
+// The tags of a book's fields.
+#[derive(Clone, Copy, Debug, PartialEq, Eq)]
+pub enum Tag {
+    ClassCount = 1,
+    YesFacts = 2,
+    NoFacts = 3,
+    Answers = 4,
+}
+
 // The most classes that a table may have.
 pub const MOST_CLASSES: usize = 128;
-
-// The refusal numbers.
-pub const BAD_COUNT: u8 = 1;
-
-pub const SHORT_TABLE: u8 = 2;
-
-pub const NOT_SOUND: u8 = 3;
-
-pub const OVERCOUNTED: u8 = 4;
-
-pub const NO_SUCH_CLASS: u8 = 5;
-
-pub const CONTRADICTED: u8 = 6;
-
-pub const STILL_OPEN: u8 = 7;
-
-pub const NO_ROOM: u8 = 8;
-
-pub const NO_LADDER: u8 = 9;
-
-pub const CUT_SHORT: u8 = 10;
-
-pub const UNKNOWN_TAG: u8 = 11;
-
-pub const MISPLACED_TAG: u8 = 12;
-
-pub const BAD_LENGTH: u8 = 13;
-
-pub const BAD_VERDICT: u8 = 14;
-
-pub const TOO_LONG: u8 = 15;
-
-// The tags of a book's fields.
-pub const CLASS_COUNT: u8 = 1;
-
-pub const YES_FACTS: u8 = 2;
-
-pub const NO_FACTS: u8 = 3;
-
-pub const ANSWERS: u8 = 4;

@@ -16,7 +16,8 @@ use Rattle.promise.specs.declared.Session.{Session}
 use Rattle.promise.specs.declared.Reply.{Reply}
 use Rattle.promise.specs.Calls.{reply, accepted, Owed}
 use Rattle.promise.specs.Clips.{truth_of}
-use Rattle.promise.specs.Tell.{Kind, fresh, tell}
+use Rattle.promise.specs.declared.Kind.{Kind}
+use Rattle.promise.specs.Tell.{fresh, tell}
 use Rattle.promise.specs.Book.{field_refusals, Item, fact_of, GoesOn, Follows}
 use Rattle.promise.proofs.Standing.{stood, first_stands}
 use Rattle.promise.proofs.Fresh.{fresh_stands}

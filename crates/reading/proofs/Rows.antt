@@ -8,7 +8,7 @@ use Prim.Native.Nat.{ℕ, ◌≤◌}
 use native.Mathlib.Omega.{arith}
 use borrow.Author.Tests.{eq-eqb, ne_eqb}
 use lib.Dec.{eqb}
-use Rattle.promise.specs.Tell.{Kind}
+use Rattle.promise.specs.declared.Kind.{Kind}
 use Rattle.session.specs.Facts.{kind_of}
 use Rattle.promise.specs.Book.{Contents, Lookup, row_of}
 use Rattle.promise.proofs.Tags.{FactsTag, RowIs, row_is}

@@ -8,7 +8,7 @@ use Rattle.promise.specs.declared.Stage.TheVariants.{Start, Begun}
 use Rattle.promise.specs.declared.Session.{Session}
 use Rattle.promise.specs.declared.Reply.{Reply}
 use Rattle.promise.specs.Calls.{reply}
-use Rattle.promise.specs.Tell.{Kind}
+use Rattle.promise.specs.declared.Kind.{Kind}
 use Rattle.session.specs.Facts.{kind_of}
 use Rattle.promise.specs.Book.{count_row, facts_row, Lookup, row_of, length_of, field_refusals, Item, facts_from}
 use Rattle.promise.specs.Book.{field_says}
@@ -49,8 +49,8 @@ allows_length false width size = eqb (size % width) 0
 
 -- a fact that is told has two bytes, and an answer three
 abbrev pub width_of : Kind → ℕ
-width_of Kind.told = 2
-width_of Kind.answered = 3
+width_of Kind.Told = 2
+width_of Kind.Answered = 3
 
 abbrev pub WideRow : Row → Type 0
 WideRow row = row.width ≡ width_of (kind_of row.answers)

@@ -16,7 +16,8 @@ use Rattle.order.specs.Orders.{Impossible, Possible, Exact}
 use Rattle.promise.specs.declared.Session.{Session}
 use Rattle.promise.specs.declared.Reply.{Reply}
 use Rattle.promise.specs.Calls.{accepted, Owed}
-use Rattle.promise.specs.Tell.{Kind, fresh, tell}
+use Rattle.promise.specs.declared.Kind.{Kind}
+use Rattle.promise.specs.Tell.{fresh, tell}
 use Rattle.promise.specs.Clips.{Flagged, clip}
 use Rattle.promise.specs.Runs.{Intake, taking, SaidBy, Said, Fits, AllFit, Made, Run, calls_of, Accepted, AllAccepted}
 use Rattle.promise.specs.Runs.{tests_in}
@@ -62,13 +63,13 @@ one_more {s₀} {t₀ = t₀} {t' = t'} {r = r} numbers flags i h makes =
 module _ {s : Session} {t t' : List ℕ} {r : Reply} (flags : List Bool) (first second : ℕ) where
   pub tell_made :
       {which : ℕ} {holds holds' : Bool} → which ≡ 0 → holds ≡ holds'
-      → Owed (tell Kind.told s t (fact_on first second holds)) (r, t')
+      → Owed (tell Kind.Told s t (fact_on first second holds)) (r, t')
       → Owed (taking (call_of which first second holds' flags) s t) (r, t')
   tell_made e e₂ h = rw (e, ← e₂) h
 
   pub answer_made :
       {which : ℕ} {holds holds' : Bool} → which ≡ 1 → holds ≡ holds'
-      → Owed (tell Kind.answered s t (fact_on first second holds)) (r, t')
+      → Owed (tell Kind.Answered s t (fact_on first second holds)) (r, t')
       → Owed (taking (call_of which first second holds' flags) s t) (r, t')
   answer_made e e₂ h = rw (e, ← e₂) h
 

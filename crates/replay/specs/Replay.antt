@@ -7,7 +7,8 @@ use Rattle.promise.specs.declared.Session.{Session}
 use Rattle.promise.specs.declared.Reply.{Reply}
 use Rattle.promise.specs.Clips.{truth_of}
 use Rattle.promise.specs.Calls.{accepted, Owed}
-use Rattle.promise.specs.Tell.{Kind, fresh}
+use Rattle.promise.specs.declared.Kind.{Kind}
+use Rattle.promise.specs.Tell.{fresh}
 use Rattle.promise.specs.Runs.{Intake, Made, FromFresh, calls_of}
 
 -- the flags of the clip of a number, 128 to a clip
@@ -16,8 +17,8 @@ clip_flags flags k = take 128 (drop (128 * k) flags)
 
 -- the call that four numbers make: a tell, an answer, or the clip of a number
 abbrev pub call_of : ℕ → ℕ → ℕ → Bool → List Bool → Intake
-call_of zero first second holds flags = Intake.fact Kind.told (fact_on first second holds)
-call_of (suc zero) first second holds flags = Intake.fact Kind.answered (fact_on first second holds)
+call_of zero first second holds flags = Intake.fact Kind.Told (fact_on first second holds)
+call_of (suc zero) first second holds flags = Intake.fact Kind.Answered (fact_on first second holds)
 call_of (suc (suc k)) first second holds flags = Intake.clipped (clip_flags flags first)
 
 -- call i

@@ -12,7 +12,8 @@ use Rattle.order.proofs.Tables.{mark_against_settled}
 use Rattle.promise.specs.declared.Session.{Session}
 use Rattle.promise.specs.declared.Reply.{Reply}
 use Rattle.promise.specs.Calls.{tested, refusal, accepted, Owed}
-use Rattle.promise.specs.Tell.{Kind, adds, tell_refusals, tell}
+use Rattle.promise.specs.declared.Kind.{Kind}
+use Rattle.promise.specs.Tell.{adds, tell_refusals, tell}
 use Rattle.session.specs.Facts.{kind_of, count_of, Judged}
 use Rattle.promise.proofs.Standing.{Stands, first_stands}
 use Rattle.promise.proofs.Calls.{owed_refused, owed_done}

@@ -4,13 +4,13 @@ use Rattle.std.specs.Prelude.{◌≡◌, Bool, true, false, ℕ}
 use Rattle.promise.specs.declared.Session.{Session}
 use Rattle.promise.specs.declared.Reply.{Reply}
 use Rattle.promise.specs.Calls.{refusal, accepted}
-use Rattle.promise.specs.Tell.{Kind}
+use Rattle.promise.specs.declared.Kind.{Kind}
 use Rattle.promise.specs.Refusals.{contradicted}
 
 -- an answer counts, a tell does not
 abbrev pub kind_of : Bool → Kind
-kind_of true = Kind.answered
-kind_of false = Kind.told
+kind_of true = Kind.Answered
+kind_of false = Kind.Told
 
 -- a fact taken in adds one test or none
 abbrev pub count_of : Bool → ℕ

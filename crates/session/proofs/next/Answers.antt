@@ -5,8 +5,8 @@ use mathlib.Core.List.{List, []}
 use Prim.Native.Nat.{ℕ}
 use Rattle.promise.specs.Refusals.{First, standing}
 use Rattle.promise.specs.declared.Session.{Session}
-use Rattle.promise.specs.declared.Question.{Question}
-use Rattle.promise.specs.declared.Question.TheVariants.{Ask, Done, Refused}
+use Rattle.promise.specs.Next.{Question}
+use Rattle.promise.specs.Next.Question.{Ask, Done, Refused}
 use Rattle.promise.specs.Calls.{Owed}
 use Rattle.promise.specs.Next.{Names, next}
 use Rattle.promise.proofs.Standing.{stood}

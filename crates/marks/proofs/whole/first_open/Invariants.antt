@@ -5,7 +5,7 @@ use mathlib.Core.Logic.{◌≢◌}
 use mathlib.Core.List.{List}
 use Prim.Native.Nat.{ℕ, ◌≤◌, ◌<◌, ◌-◌}
 use Rattle.order.specs.Tables.{mark, Before}
-use Rattle.promise.specs.declared.Question.TheVariants.{Done}
+use Rattle.promise.specs.Next.Question.{Done}
 use Rattle.marks.proofs.whole.first_open.Given as goal
 
 -- no open pair stands before (a, b)
