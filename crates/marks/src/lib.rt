@@ -1,23 +1,17 @@
-// The marks in lent bytes. `passes` and `standing`, right above, walk the table by index too; the rest of the library
-// speaks of facts and sound tables, and never of an index.
+// The marks in lent bytes. `passes`, right above, walks the table by index too; the rest of the library speaks of facts
+// and sound tables, and never of an index.
 #![tactic(auto)]
 
-mod single;
-mod whole;
+mod fresh;
+mod lent;
 
-pub use single::{index, is_marked, mark_of, under};
-pub use whole::{count_open, first_open, fresh_marks};
+pub use fresh::{fresh_marks, index};
+pub use lent::Marks;
 
 // The three marks, and the bytes that they are.
-#[derive(Clone, Copy)]
+#[derive(Clone, Copy, Debug, PartialEq, Eq)]
 pub enum Mark {
-    Open,
-    Yes,
-    No,
+    Open = 0,
+    Yes = 1,
+    No = 2,
 }
-
-pub const OPEN: u8 = 0;
-
-pub const YES: u8 = 1;
-
-pub const NO: u8 = 2;

@@ -3,29 +3,25 @@
 
 mod flags;
 
-ghost use Rattle.std.specs.Prelude.{◌≡◌, ◌<◌};
+ghost use Rattle.std.specs.Prelude.{◌≤◌, length};
 ghost use Rattle.order.specs.Facts.{under, not_under};
+ghost use Rattle.marks.specs.Bytes.{byte_of};
 ghost use Rattle.marks.specs.Shape.{Shape};
 ghost use Rattle.promise.specs.Clips.{Flagged};
-ghost use Rattle.passes.specs.Spread.{Spread};
+ghost use Rattle.passes.specs.Spread.{RowMarked, Spread};
 ghost use Rattle.passes.specs.Taken.{OpenPair, FactTaken};
 
 use flags::{column_flags, row_flags};
-use marks::{NO, YES, index};
+use marks::{Mark, Marks};
 use promise::MOST_CLASSES;
 
-// (x, y) becomes v for every flagged y. Each byte of the row is stored, changed or not: a loop without branches becomes
-// vector code.
-fn mark_row(n: usize, table: &mut [u8], x: usize, ys: &[bool; MOST_CLASSES], v: u8)
-    requires { (Shape n table.old) × (x < n) }
-    ensures { Spread n (λ a b. (a ≡ x) × Flagged ys.now b) v
-        table.old table.new }
+// Each flagged byte of a row becomes v. Each byte is stored, changed or not: a loop without branches becomes vector code.
+fn mark_row(row: &mut [u8], ys: &[bool; MOST_CLASSES], v: Mark)
+    requires { length row.old ≤ 128 }
+    ensures { RowMarked ys.now v row.old row.new }
 {
-    let start = index(n, x, 0);
-    for y in 0..n {
-        let i = start + y;
-        let old = table[i];
-        table[i] = if ys[y] { v } else { old };
+    for (mark, flag) in row.iter_mut().zip(ys) {
+        *mark = if *flag { v as u8 } else { *mark };
     }
 }
 
@@ -35,15 +31,16 @@ pub fn spread(
     table: &mut [u8],
     xs: &[bool; MOST_CLASSES],
     ys: &[bool; MOST_CLASSES],
-    v: u8,
+    v: Mark,
 )
     requires { Shape n table.old }
-    ensures { Spread n (λ a b. Flagged xs.now a × Flagged ys.now b) v
+    ensures { Spread n (λ a b. Flagged xs.now a × Flagged ys.now b) (byte_of v)
         table.old table.new }
 {
     for x in 0..n {
         if xs[x] {
-            mark_row(n, &mut *table, x, ys, v);
+            let start = x * n;
+            mark_row(&mut table[start..start + n], ys, v);
         }
     }
 }
@@ -54,13 +51,17 @@ pub fn take_yes(n: usize, table: &mut [u8], a: usize, b: usize)
     requires { OpenPair n table.old a b }
     ensures { FactTaken n (under a b) table.old table.new }
 {
-    let under_a = column_flags(n, &*table, a, YES);
-    let above_b = row_flags(n, &*table, b, YES);
-    let not_above_a = row_flags(n, &*table, a, NO);
-    let not_under_b = column_flags(n, &*table, b, NO);
-    spread(n, &mut *table, &under_a, &above_b, YES);
-    spread(n, &mut *table, &above_b, &not_above_a, NO);
-    spread(n, &mut *table, &not_under_b, &under_a, NO);
+    let marks = Marks {
+        classes: n,
+        bytes: &*table,
+    };
+    let under_a = column_flags(&marks, a, Mark::Yes);
+    let above_b = row_flags(&marks, b, Mark::Yes);
+    let not_above_a = row_flags(&marks, a, Mark::No);
+    let not_under_b = column_flags(&marks, b, Mark::No);
+    spread(n, &mut *table, &under_a, &above_b, Mark::Yes);
+    spread(n, &mut *table, &above_b, &not_above_a, Mark::No);
+    spread(n, &mut *table, &not_under_b, &under_a, Mark::No);
 }
 
 // c is not under d. What is above c is not under what is under d.
@@ -68,7 +69,11 @@ pub fn take_no(n: usize, table: &mut [u8], c: usize, d: usize)
     requires { OpenPair n table.old c d }
     ensures { FactTaken n (not_under c d) table.old table.new }
 {
-    let above_c = row_flags(n, &*table, c, YES);
-    let under_d = column_flags(n, &*table, d, YES);
-    spread(n, &mut *table, &above_c, &under_d, NO);
+    let marks = Marks {
+        classes: n,
+        bytes: &*table,
+    };
+    let above_c = row_flags(&marks, c, Mark::Yes);
+    let under_d = column_flags(&marks, d, Mark::Yes);
+    spread(n, &mut *table, &above_c, &under_d, Mark::No);
 }

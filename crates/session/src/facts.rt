@@ -1,15 +1,14 @@
 // What tell and answer share: a fact is judged and taken in.
-ghost use Rattle.std.specs.Prelude.{[]};
+ghost use Rattle.std.specs.Prelude.{◌≡◌, ◌<◌, []};
 ghost use Rattle.order.specs.Facts.{fact_on};
 ghost use Rattle.promise.specs.Refusals.{First, standing};
-ghost use Rattle.promise.specs.Calls.{Owed};
-ghost use Rattle.session.specs.Facts.{kind_of, Judged};
-ghost use Rattle.promise.specs.Tell.{tell};
+ghost use Rattle.promise.specs.Calls.{Owed, reply_of, tested};
+ghost use Rattle.promise.specs.Tell.{adds, tell};
 ghost use Rattle.passes.specs.Taken.{OpenPair, FactTaken};
+ghost use Rattle.session.specs.Facts.{Judged};
 
-use crate::replies::{accepted, refused, tested};
-use marks::Mark;
-use promise::{CONTRADICTED, NO_SUCH_CLASS, Reply, Session};
+use marks::{Mark, Marks};
+use promise::{Kind, Refusal, Session};
 
 // A fact on an open pair is taken in.
 fn take_in(n: usize, table: &mut [u8], lower: usize, upper: usize, holds: bool)
@@ -24,13 +23,28 @@ fn take_in(n: usize, table: &mut [u8], lower: usize, upper: usize, holds: bool)
 }
 
 // A fact on a settled pair agrees or contradicts, and changes nothing.
-fn judge(session: Session, agrees: bool) -> Reply
-    ensures { Judged session agrees result }
+fn judge(session: Session, agrees: bool) -> Result<Session, Refusal>
+    ensures { Judged session agrees (reply_of session result) }
 {
     if agrees {
-        return accepted(session);
+        Ok(session)
+    } else {
+        Err(Refusal::Contradicted)
     }
-    refused(CONTRADICTED, session)
+}
+
+// The session after a fact on an open pair: an answer is one test more.
+fn tested(session: Session, kind: Kind) -> Session
+    requires { session.tests < 16384 }
+    ensures { result ≡ tested (adds kind 0 0) session }
+{
+    match kind {
+        Kind::Told => session,
+        Kind::Answered => Session {
+            classes: session.classes,
+            tests: session.tests + 1,
+        },
+    }
 }
 
 // A fact is taken in by a session and a table for which none of the refusals 1 to 4 is due.
@@ -40,26 +54,26 @@ pub fn take_fact(
     lower: usize,
     upper: usize,
     holds: bool,
-    counts: bool,
-) -> Reply
+    kind: Kind,
+) -> Result<Session, Refusal>
     requires { First (standing session table.old []) 0 }
-    ensures { Owed (tell (kind_of counts) session table.old (fact_on lower upper holds))
-        (result, table.new) }
+    ensures { Owed (tell kind session table.old (fact_on lower upper holds))
+        (reply_of session result, table.new) }
 {
     let n = session.classes;
-    if n <= lower {
-        return refused(NO_SUCH_CLASS, session);
+    if n <= lower || n <= upper {
+        return Err(Refusal::NoSuchClass);
     }
-    if n <= upper {
-        return refused(NO_SUCH_CLASS, session);
-    }
-    let mark = marks::mark_of(n, &*table, lower, upper);
-    match mark {
+    let marks = Marks {
+        classes: n,
+        bytes: &*table,
+    };
+    match marks.mark(lower, upper) {
         Mark::Yes => judge(session, holds),
         Mark::No => judge(session, !holds),
         Mark::Open => {
             take_in(n, &mut *table, lower, upper, holds);
-            accepted(tested(session, counts))
+            Ok(tested(session, kind))
         }
     }
 }
@@ -71,14 +85,11 @@ pub fn take(
     lower: usize,
     upper: usize,
     holds: bool,
-    counts: bool,
-) -> Reply
-    ensures { Owed (tell (kind_of counts) session table.old (fact_on lower upper holds))
-        (result, table.new) }
+    kind: Kind,
+) -> Result<Session, Refusal>
+    ensures { Owed (tell kind session table.old (fact_on lower upper holds))
+        (reply_of session result, table.new) }
 {
-    let number = standing::first_refusal(session, &*table);
-    if number != 0 {
-        return refused(number, session);
-    }
-    take_fact(session, &mut *table, lower, upper, holds, counts)
+    standing::checked(session, &*table)?;
+    take_fact(session, &mut *table, lower, upper, holds, kind)
 }

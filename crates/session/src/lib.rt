@@ -3,72 +3,71 @@
 #![tactic(auto)]
 
 mod facts;
-mod replies;
 
 ghost use Rattle.order.specs.Facts.{fact_on};
-ghost use Rattle.promise.specs.Calls.{Owed, open_pairs};
-ghost use Rattle.promise.specs.Tell.{Kind, fresh, tell};
-ghost use Rattle.promise.specs.Next.{next};
+ghost use Rattle.promise.specs.Calls.{Owed, count_of, no_session, open_pairs, reply_of};
+ghost use Rattle.promise.specs.Tell.{fresh, tell};
+ghost use Rattle.promise.specs.Next.{next, question_of};
+ghost use Rattle.promise.specs.declared.Kind.TheVariants.{Answered, Told};
 
 pub use facts::take_fact;
-use promise::{BAD_COUNT, Counted, MOST_CLASSES, Question, Reply, SHORT_TABLE, Session};
-use replies::started;
-pub use replies::{accepted, no_session, refused, stopped};
+use promise::{Asked, Kind, MOST_CLASSES, Refusal, Session};
 
 // A new table: yes on the diagonal, open elsewhere.
-pub fn fresh(classes: usize, table: &mut [u8]) -> Reply
-    ensures { Owed (fresh classes table.old) (result, table.new) }
+pub fn fresh(classes: usize, table: &mut [u8]) -> Result<Session, Refusal>
+    ensures { Owed (fresh classes table.old) (reply_of no_session result, table.new) }
 {
-    if classes == 0 {
-        return refused(BAD_COUNT, no_session());
-    }
-    if MOST_CLASSES < classes {
-        return refused(BAD_COUNT, no_session());
+    if classes == 0 || MOST_CLASSES < classes {
+        return Err(Refusal::BadCount);
     }
     if table.len() < classes * classes {
-        return refused(SHORT_TABLE, no_session());
+        return Err(Refusal::ShortTable);
     }
     marks::fresh_marks(classes, &mut *table);
-    accepted(started(classes))
+    Ok(Session {
+        classes: classes,
+        tests: 0,
+    })
 }
 
 // A fact is told: it never counts as a test.
-pub fn tell(session: Session, table: &mut [u8], lower: usize, upper: usize, holds: bool) -> Reply
-    ensures { Owed (tell Kind.told session table.old (fact_on lower upper holds))
-        (result, table.new) }
+pub fn tell(
+    session: Session,
+    table: &mut [u8],
+    lower: usize,
+    upper: usize,
+    holds: bool,
+) -> Result<Session, Refusal>
+    ensures { Owed (tell Told session table.old (fact_on lower upper holds))
+        (reply_of session result, table.new) }
 {
-    facts::take(session, &mut *table, lower, upper, holds, false)
+    facts::take(session, &mut *table, lower, upper, holds, Kind::Told)
 }
 
 // A fact is given as an answer: it counts as a test where its pair was open.
-pub fn answer(session: Session, table: &mut [u8], lower: usize, upper: usize, holds: bool) -> Reply
-    ensures { Owed (tell Kind.answered session table.old (fact_on lower upper holds))
-        (result, table.new) }
+pub fn answer(
+    session: Session,
+    table: &mut [u8],
+    lower: usize,
+    upper: usize,
+    holds: bool,
+) -> Result<Session, Refusal>
+    ensures { Owed (tell Answered session table.old (fact_on lower upper holds))
+        (reply_of session result, table.new) }
 {
-    facts::take(session, &mut *table, lower, upper, holds, true)
+    facts::take(session, &mut *table, lower, upper, holds, Kind::Answered)
 }
 
-// The next question: the first open pair, rows in rising order and then columns.
-pub fn next(session: Session, table: &[u8]) -> Question
-    ensures { Owed (next session table.now) result }
+// The next question: the first open pair, rows in rising order and then columns, or that none is open.
+pub fn next(session: Session, table: &[u8]) -> Result<Option<Asked>, Refusal>
+    ensures { Owed (next session table.now) (question_of result) }
 {
-    let number = standing::first_refusal(session, table);
-    if number != 0 {
-        return Question::Refused {
-            number: number,
-            place: 0,
-        };
-    }
-    marks::first_open(session.classes, table)
+    Ok(standing::checked(session, table)?.first_open())
 }
 
 // How many pairs are open.
-pub fn open_pairs(session: Session, table: &[u8]) -> Counted
-    ensures { Owed (open_pairs session table.now) result }
+pub fn open_pairs(session: Session, table: &[u8]) -> Result<usize, Refusal>
+    ensures { Owed (open_pairs session table.now) (count_of result) }
 {
-    let number = standing::first_refusal(session, table);
-    if number != 0 {
-        return standing::refused_count(number);
-    }
-    Counted::Count(marks::count_open(session.classes, table))
+    Ok(standing::checked(session, table)?.count_open())
 }

@@ -1,2 +1,3 @@
+pub mod Checked
 pub mod Soundness
 pub mod Left

@@ -3,51 +3,37 @@
 
 mod sound;
 
-ghost use Rattle.std.specs.Prelude.{◌≡◌, []};
-ghost use Rattle.promise.specs.Refusals.{First, standing};
-ghost use Rattle.promise.specs.declared.Counted.TheVariants.{Refused};
+ghost use Rattle.std.specs.Prelude.{◌≡◌, [], IfOk};
+ghost use Rattle.promise.specs.Refusals.{First, number_by, standing};
+ghost use Rattle.standing.specs.Checked.{MarksOf};
 
-use marks::count_open;
-use promise::{BAD_COUNT, Counted, MOST_CLASSES, NOT_SOUND, OVERCOUNTED, SHORT_TABLE, Session};
+use marks::Marks;
+use promise::{MOST_CLASSES, Refusal, Session};
 use sound::is_sound;
 
-// The first of the refusals 1 to 4 that is due, 0 if none is.
-pub fn first_refusal(session: Session, table: &[u8]) -> u8
-    ensures { First (standing session table.now []) result }
+// The marks of a table for which none of the refusals 1 to 4 is due, or the first that is.
+pub fn checked(session: Session, table: &[u8]) -> Result<Marks<'_>, Refusal>
+    ensures first { First (standing session table.now []) (number_by result) }
+    ensures marks { IfOk result (λ marks. MarksOf session table.now marks) }
 {
     let n = session.classes;
-    if n == 0 {
-        return BAD_COUNT;
-    }
-    if MOST_CLASSES < n {
-        return BAD_COUNT;
+    if n == 0 || MOST_CLASSES < n {
+        return Err(Refusal::BadCount);
     }
     let pairs = n * n;
     if table.len() < pairs {
-        return SHORT_TABLE;
+        return Err(Refusal::ShortTable);
     }
-    let sound = is_sound(n, table);
-    if !sound {
-        return NOT_SOUND;
+    let marks = Marks {
+        classes: n,
+        bytes: table,
+    };
+    if !is_sound(&marks) {
+        return Err(Refusal::NotSound);
     }
     let most = pairs - n;
-    let tests = session.tests;
-    if most < tests {
-        return OVERCOUNTED;
+    if most < session.tests || most - session.tests < marks.count_open() {
+        return Err(Refusal::Overcounted);
     }
-    let open = count_open(n, table);
-    if most - tests < open {
-        return OVERCOUNTED;
-    }
-    0
-}
-
-// A call that counts is refused, outside books, where the place is 0.
-pub fn refused_count(number: u8) -> Counted
-    ensures { result ≡ Refused number 0 }
-{
-    Counted::Refused {
-        number: number,
-        place: 0,
-    }
+    Ok(marks)
 }
