@@ -1,22 +1,46 @@
-// The archive for C: each export is the library's function of its name, with its clauses.
+// The calls for C: a buffer is a slice, and an answer crosses as a struct.
 #![tactic(auto)]
 
+ghost use Rattle.std.specs.Prelude.{◌≡◌};
 ghost use Rattle.order.specs.Facts.{fact_on};
-ghost use Rattle.promise.specs.Calls.{Owed, count_for_c, writes_for_c, open_pairs};
-ghost use Rattle.promise.specs.Tell.{Kind, fresh, tell};
+ghost use Rattle.promise.specs.Calls.{Owed, count_for_c, open_pairs, reply_of, writes_for_c};
+ghost use Rattle.promise.specs.Tell.{fresh, tell};
 ghost use Rattle.promise.specs.Clips.{clip_bytes};
 ghost use Rattle.promise.specs.Next.{next_for_c};
 ghost use Rattle.promise.specs.Hierarchy.{hierarchy, ladder};
 ghost use Rattle.promise.specs.Book.{BookRead, write};
+ghost use Rattle.promise.specs.declared.Kind.TheVariants.{Answered, Told};
 
-use promise::{CrossedCount, CrossedQuestion, Reply, Session};
+use promise::{CrossedCount, CrossedQuestion, Refusal, Reply, Session};
+
+// What a call outside books replies. A refusal has place 0, and gives this session back.
+fn replied(back: Session, answer: Result<Session, Refusal>) -> Reply
+    ensures { result ≡ reply_of back answer }
+{
+    match answer {
+        Ok(session) => Reply {
+            number: 0,
+            place: 0,
+            session,
+        },
+        Err(why) => Reply {
+            number: why as u8,
+            place: 0,
+            session: back,
+        },
+    }
+}
 
 // Starts a table.
 #[unsafe(no_mangle)]
 pub extern "C" fn dawnhangra_fresh(classes: usize, table: &mut [u8]) -> Reply
     ensures { Owed (fresh classes table.old) (result, table.new) }
 {
-    dawnhangra::dawnhangra_fresh(classes, table)
+    let none = Session {
+        classes: 0,
+        tests: 0,
+    };
+    replied(none, dawnhangra::fresh(classes, table))
 }
 
 // Takes a fact in that is told.
@@ -28,10 +52,13 @@ pub extern "C" fn dawnhangra_tell(
     upper: usize,
     holds: bool,
 ) -> Reply
-    ensures { Owed (tell Kind.told session table.old (fact_on lower upper holds))
+    ensures { Owed (tell Told session table.old (fact_on lower upper holds))
         (result, table.new) }
 {
-    dawnhangra::dawnhangra_tell(session, table, lower, upper, holds)
+    replied(
+        session,
+        dawnhangra::tell(session, table, lower, upper, holds),
+    )
 }
 
 // Takes a fact in that a test gave.
@@ -43,10 +70,13 @@ pub extern "C" fn dawnhangra_answer(
     upper: usize,
     holds: bool,
 ) -> Reply
-    ensures { Owed (tell Kind.answered session table.old (fact_on lower upper holds))
+    ensures { Owed (tell Answered session table.old (fact_on lower upper holds))
         (result, table.new) }
 {
-    dawnhangra::dawnhangra_answer(session, table, lower, upper, holds)
+    replied(
+        session,
+        dawnhangra::answer(session, table, lower, upper, holds),
+    )
 }
 
 // Takes a clip in, with a byte for each flag.
@@ -54,7 +84,7 @@ pub extern "C" fn dawnhangra_answer(
 pub extern "C" fn dawnhangra_clip(session: Session, table: &mut [u8], played: &[u8]) -> Reply
     ensures { Owed (clip_bytes session table.old played.now) (result, table.new) }
 {
-    dawnhangra::dawnhangra_clip(session, table, played)
+    replied(session, dawnhangra::clip_bytes(session, table, played))
 }
 
 // Names the first open pair.
@@ -62,7 +92,7 @@ pub extern "C" fn dawnhangra_clip(session: Session, table: &mut [u8], played: &[
 pub extern "C" fn dawnhangra_next(session: Session, table: &[u8]) -> CrossedQuestion
     ensures { Owed (next_for_c session table.now) result }
 {
-    dawnhangra::dawnhangra_next(session, table)
+    CrossedQuestion::from(dawnhangra::next(session, table))
 }
 
 // Counts the open pairs.
@@ -70,7 +100,7 @@ pub extern "C" fn dawnhangra_next(session: Session, table: &[u8]) -> CrossedQues
 pub extern "C" fn dawnhangra_open_pairs(session: Session, table: &[u8]) -> CrossedCount
     ensures { Owed (count_for_c (open_pairs session table.now)) result }
 {
-    dawnhangra::dawnhangra_open_pairs(session, table)
+    CrossedCount::from(dawnhangra::open_pairs(session, table))
 }
 
 // Writes heads and direct steps.
@@ -85,7 +115,7 @@ pub extern "C" fn dawnhangra_hierarchy(
         (writes_for_c (hierarchy session table.now heads.old steps.old))
         (result, (heads.new, steps.new)) }
 {
-    dawnhangra::dawnhangra_hierarchy(session, table, heads, steps)
+    CrossedCount::from(dawnhangra::hierarchy(session, table, heads, steps))
 }
 
 // Writes the rungs from one class to another.
@@ -100,7 +130,7 @@ pub extern "C" fn dawnhangra_ladder(
     ensures { Owed (writes_for_c (ladder session table.now lower upper rungs.old))
         (result, rungs.new) }
 {
-    dawnhangra::dawnhangra_ladder(session, table, lower, upper, rungs)
+    CrossedCount::from(dawnhangra::ladder(session, table, lower, upper, rungs))
 }
 
 // Reads a book onto a fresh table.
@@ -108,7 +138,7 @@ pub extern "C" fn dawnhangra_ladder(
 pub extern "C" fn dawnhangra_read(book: &[u8], table: &mut [u8]) -> Reply
     ensures { BookRead book.now table.old result table.new }
 {
-    dawnhangra::dawnhangra_read(book, table)
+    Reply::from(dawnhangra::read(book, table))
 }
 
 // Writes the book of a table.
@@ -116,5 +146,5 @@ pub extern "C" fn dawnhangra_read(book: &[u8], table: &mut [u8]) -> Reply
 pub extern "C" fn dawnhangra_write(session: Session, table: &[u8], out: &mut [u8]) -> CrossedCount
     ensures { Owed (writes_for_c (write session table.now out.old)) (result, out.new) }
 {
-    dawnhangra::dawnhangra_write(session, table, out)
+    CrossedCount::from(dawnhangra::write(session, table, out))
 }

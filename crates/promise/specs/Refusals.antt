@@ -91,7 +91,7 @@ abbrev pub number_of : Refusal → ℕ
 number_of BadCount = (bad_count 0).number
 number_of ShortTable = (short_table 0 []).number
 number_of NotSound = (not_sound 0 []).number
-number_of TooManyTests = 4
+number_of TooManyTests = (overcounted (record { classes = 0; tests = 0 }) []).number
 number_of NoSuchClass = (no_such_class (Unit {0})).number
 number_of Contradicted = (contradicted (Unit {0})).number
 number_of StillOpen = (still_open 0 []).number

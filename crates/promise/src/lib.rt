@@ -1,5 +1,8 @@
-// The values that the public calls take and give. There is no code here; specs/ says what each call owes.
+// The values that the public calls take and give; specs/ says what each call owes. The only code here turns answers
+// into what C gets.
 #![tactic(auto)]
+
+mod for_c;
 
 // The class count, and the tally of tests.
 #[repr(C)]
