@@ -1,3 +1,4 @@
 pub mod Answers
+pub mod Counts
 pub mod Shape
 pub mod Upto

@@ -21,6 +21,7 @@ impl<'a> Marks<'a> {
     ghost use Rattle.marks.specs.Bytes.{byte_of};
 
     // The byte that marks (a, b).
+    #[tactic(auto, unfolding(order::specs::Tables::mark))]
     pub fn at(&self, a: usize, b: usize) -> u8
         requires { (a < self.now.classes) × (b < self.now.classes) }
         ensures { result ≡ mark self.now.classes self.now.bytes.now a b }
@@ -29,6 +30,7 @@ impl<'a> Marks<'a> {
     }
 
     // The marks of the row of a class.
+    #[tactic(auto, unfolding(order::specs::Tables::mark))]
     pub fn row(&self, a: usize) -> &'a [u8]
         requires { a < self.now.classes }
         ensures { RowOf self.now.classes self.now.bytes.now a result.now }
