@@ -1,12 +1,12 @@
 -- What hierarchy and ladder still owe where only 8 may be due.
 -- Assumes nothing.
 use Rattle.std.specs.Prelude.{◌⊎◌, List, [], ◌∷◌, ℕ, ◌<◌}
+use Rattle.order.specs.Tables.{Sound}
 use Rattle.promise.specs.Calls.{Counted}
 use Rattle.promise.specs.Calls.{started, Call, TooShort}
 use Rattle.promise.specs.Refusals.{no_room}
 use Rattle.promise.specs.Hierarchy.{Under, HeadsOf, StepBytes, hierarchy, LadderOf, ladder}
 use Rattle.standing.specs.Left.{left}
-use Rattle.steps.specs.HeadsFound.{SoundTable}
 
 -- hierarchy, where none of the refusals 1 to 4 and 7 is due
 abbrev pub hierarchy_left : ℕ → List ℕ → List ℕ → List ℕ → Call (Counted × (List ℕ × List ℕ))
@@ -14,9 +14,9 @@ hierarchy_left n t heads steps =
     left (no_room (TooShort (HeadsOf n t) heads ⊎ TooShort (StepBytes n t) steps) ∷ [])
     (hierarchy (started n) t heads steps)
 
--- a sound table with room for its marks, and two of its classes, a under b
+-- a sound table and two of its classes, a under b
 pub record HasLadder (n : ℕ) (t : List ℕ) (a b : ℕ) : Type 0 where
-  pub table : SoundTable n t
+  pub sound : Sound n t
   pub lower_below : a < n
   pub upper_below : b < n
   pub under : Under n t a b

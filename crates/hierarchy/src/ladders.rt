@@ -1,53 +1,48 @@
 // Ladders.
-ghost use Rattle.promise.specs.Calls.{Owed};
+ghost use Rattle.promise.specs.Calls.{Owed, count_of};
 ghost use Rattle.promise.specs.Hierarchy.{ladder};
 ghost use Rattle.hierarchy.specs.Left.{HasLadder, ladder_left};
 
 use crate::rungs::climb;
-use marks::{count_open, under};
-use promise::{Counted, MOST_CLASSES, NO_LADDER, NO_ROOM, NO_SUCH_CLASS, STILL_OPEN, Session};
-use standing::{first_refusal, refused_count};
-use steps::find_heads;
+use marks::Marks;
+use promise::{Refusal, Session};
+use steps::Heads;
 
 // The ladder from a to b, where only 8 may still be due.
-fn write_ladder(n: usize, table: &[u8], a: usize, b: usize, rungs: &mut [u8]) -> Counted
-    requires { HasLadder n table.now a b }
-    ensures { Owed (ladder_left n table.now a b rungs.old) (result, rungs.new) }
+fn write_ladder(marks: &Marks<'_>, a: usize, b: usize, rungs: &mut [u8]) -> Result<usize, Refusal>
+    requires { HasLadder marks.now.classes marks.now.bytes.now a b }
+    ensures { Owed (ladder_left marks.now.classes marks.now.bytes.now a b rungs.old)
+        (count_of result, rungs.new) }
 {
-    let mut heads: [u8; MOST_CLASSES] = [0; MOST_CLASSES];
-    find_heads(n, table, &mut heads[..]);
-    let start = heads[a] as usize;
-    let count = climb(n, table, &heads[..], b, start, 0, &mut *rungs);
+    let heads = Heads::of(marks);
+    let count = climb(&heads, b, heads.head(a), 0, &mut *rungs);
     if rungs.len() < count {
-        return refused_count(NO_ROOM);
+        return Err(Refusal::NoRoom);
     }
-    Counted::Count(count)
+    Ok(count)
 }
 
 // Writes the ladder from a to b, a byte a rung, and gives the count of rungs. Refuses with 1 to 4, with 5 if a or b is
 // no class, with 7 if a pair is open, with 9 if a is not under b, and with 8 if the buffer is too short; then no byte
 // is written.
-pub fn ladder(session: Session, table: &[u8], a: usize, b: usize, rungs: &mut [u8]) -> Counted
-    ensures { Owed (ladder session table.now a b rungs.old) (result, rungs.new) }
+pub fn ladder(
+    session: Session,
+    table: &[u8],
+    a: usize,
+    b: usize,
+    rungs: &mut [u8],
+) -> Result<usize, Refusal>
+    ensures { Owed (ladder session table.now a b rungs.old) (count_of result, rungs.new) }
 {
-    let number = first_refusal(session, table);
-    if number != 0 {
-        return refused_count(number);
+    let marks = standing::checked(session, table)?;
+    if marks.classes <= a || marks.classes <= b {
+        return Err(Refusal::NoSuchClass);
     }
-    let n = session.classes;
-    if n <= a {
-        return refused_count(NO_SUCH_CLASS);
+    if marks.count_open() != 0 {
+        return Err(Refusal::StillOpen);
     }
-    if n <= b {
-        return refused_count(NO_SUCH_CLASS);
+    if !marks.under(a, b) {
+        return Err(Refusal::NoLadder);
     }
-    let open = count_open(n, table);
-    if open != 0 {
-        return refused_count(STILL_OPEN);
-    }
-    let up = under(n, table, a, b);
-    if !up {
-        return refused_count(NO_LADDER);
-    }
-    write_ladder(n, table, a, b, rungs)
+    write_ladder(&marks, a, b, rungs)
 }

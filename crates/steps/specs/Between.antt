@@ -1,6 +1,6 @@
 -- Third heads, found for one head a: a flag for each class.
 -- Assumes nothing.
-use Rattle.std.specs.Prelude.{◌≡◌, ◌↔◌, ◌≢◌, ◌⊎◌, Bool, true, false, ◌||◌, List, ℕ, ◌≤◌, ◌<◌, eqb, length, get_or}
+use Rattle.std.specs.Prelude.{◌≡◌, ◌↔◌, ◌≢◌, ◌⊎◌, Bool, true, false, ◌||◌, List, ℕ, ◌<◌, eqb, get_or}
 use Rattle.order.specs.Tables.{mark}
 use Rattle.promise.specs.Hierarchy.{Under, Head, Third}
 
@@ -19,12 +19,6 @@ pub record ThirdAdded (n : ℕ) (t : List ℕ) (c : ℕ) (flags flags' : List Bo
   pub at :
       (b : ℕ) → b < n → (get_or flags' b false ≡ true) ↔ ((get_or flags b false ≡ true) ⊎ ((c ≢ b) × Under n t c b))
 
--- a flag for each class, and none is up
-pub record NoneYet (n : ℕ) (flags : List Bool) : Type 0 where
-  pub room : n ≤ length flags
-  pub at : (b : ℕ) → b < n → get_or flags b false ≡ false
-
--- a flag for each class, and that of b is up exactly where a third head stands between a and b
+-- the flag of a class b is down exactly where no third head stands between a and b
 pub record ThirdsOf (n : ℕ) (t : List ℕ) (a : ℕ) (flags : List Bool) : Type 0 where
-  pub room : n ≤ length flags
-  pub at : (b : ℕ) → b < n → (get_or flags b false ≡ true) ↔ ((c : ℕ) × Third n t a b c)
+  pub at : (b : ℕ) → b < n → (get_or flags b false ≡ false) ↔ ((c : ℕ) → ¬ Third n t a b c)

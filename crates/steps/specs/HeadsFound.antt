@@ -4,17 +4,10 @@ use Rattle.std.specs.Prelude.{List, ℕ, ◌≤◌, ◌<◌, length, get_or}
 use Rattle.order.specs.Tables.{Sound, Pair}
 use Rattle.promise.specs.Hierarchy.{HeadOf, StepsOf}
 use Rattle.buffers.specs.Noted.{Noted}
-use Rattle.marks.specs.Shape.{Shape}
 
--- at most 128 classes, room for their marks, and the marks sound
-pub record SoundTable (n : ℕ) (t : List ℕ) : Type 0 where
-  pub shape : Shape n t
-  pub sound : Sound n t
-
--- such a table, and the head of each of its classes
+-- a sound table, and the head of each of its classes
 pub record HeadsFound (n : ℕ) (t heads : List ℕ) : Type 0 where
-  pub table : SoundTable n t
-  pub room : n ≤ length heads
+  pub sound : Sound n t
   pub at : (a : ℕ) → a < n → HeadOf n t a (get_or heads a 0)
 
 -- the direct steps were counted, and written if there is room for all of them

@@ -1,55 +1,83 @@
 // The heads of the classes.
-ghost use Rattle.std.specs.Prelude.{◌≡◌, ◌↔◌, true, ◌<◌, ◌≤◌, length, get_or};
-ghost use Rattle.promise.specs.Hierarchy.{Equal, HeadOf};
-ghost use Rattle.marks.specs.Shape.{Shape};
-ghost use Rattle.steps.specs.HeadsFound.{SoundTable, HeadsFound};
+ghost use Rattle.std.specs.Prelude.{◌≡◌, ◌↔◌, true, ◌<◌};
+ghost use Rattle.order.specs.Tables.{Sound};
+ghost use Rattle.promise.specs.Hierarchy.{Equal, HeadOf, Head, HeadsOf};
+ghost use Rattle.steps.specs.HeadsFound.{HeadsFound};
+ghost use Rattle.steps.specs.Between.{HeadAbove};
 
-use marks::under;
+use marks::Marks;
+use promise::MOST_CLASSES;
+use std::array;
+
+// The marks of a sound table, and the head of each of its classes.
+#[derive(Clone, Copy)]
+pub struct Heads<'a> {
+    pub marks: Marks<'a>,
+    pub heads: [u8; MOST_CLASSES],
+    pub ghost found: { HeadsFound marks.classes marks.bytes.now heads },
+}
 
 // Whether a and b are under each other.
-fn equal(n: usize, table: &[u8], a: usize, b: usize) -> bool
-    requires { (Shape n table.now) × (a < n) × (b < n) }
-    ensures { (result ≡ true) ↔ Equal n table.now a b }
+fn equal(marks: &Marks<'_>, a: usize, b: usize) -> bool
+    requires { (a < marks.now.classes) × (b < marks.now.classes) }
+    ensures { (result ≡ true) ↔ Equal marks.now.classes marks.now.bytes.now a b }
 {
-    let up = under(n, table, a, b);
-    if !up {
-        return false;
-    }
-    under(n, table, b, a)
+    marks.under(a, b) && marks.under(b, a)
 }
 
 // The lowest class equal to a.
-fn head_of(n: usize, table: &[u8], a: usize) -> usize
-    requires { (SoundTable n table.now) × (a < n) }
-    ensures { HeadOf n table.now a result }
+fn head_of(marks: &Marks<'_>, a: usize) -> usize
+    requires { (Sound marks.now.classes marks.now.bytes.now) × (a < marks.now.classes) }
+    ensures { HeadOf marks.now.classes marks.now.bytes.now a result }
 {
-    let mut head = a;
-    for c in 0..n {
-        let same = equal(n, table, a, c);
-        if same {
-            if c < head {
-                head = c;
-            }
+    (0..a).find(|c| equal(marks, a, *c)).unwrap_or(a)
+}
+
+impl<'a> Heads<'a> {
+    // The head of each class is worked out.
+    pub fn of(marks: &Marks<'a>) -> Self
+        requires { Sound marks.now.classes marks.now.bytes.now }
+        ensures { result.marks ≡ marks.now }
+    {
+        let heads = array::from_fn(|a| if a < marks.classes {
+            head_of(marks, a) as u8
+        } else {
+            0
+        });
+        Heads {
+            marks: *marks,
+            heads,
         }
     }
-    head
-}
 
-// The head of each class is worked out.
-pub fn find_heads(n: usize, table: &[u8], heads: &mut [u8])
-    requires { (SoundTable n table.now) × (n ≤ length heads.old) }
-    ensures { HeadsFound n table.now heads.new }
-{
-    for a in 0..n {
-        let head = head_of(n, table, a);
-        heads[a] = head as u8;
+    // The head of a class.
+    pub fn head(&self, a: usize) -> usize
+        requires { a < self.now.marks.classes }
+        ensures { HeadOf self.now.marks.classes self.now.marks.bytes.now a result }
+    {
+        self.heads[a] as usize
     }
-}
 
-// Whether a is its own head.
-pub fn is_head(heads: &[u8], a: usize) -> bool
-    requires { a < length heads.now }
-    ensures { (result ≡ true) ↔ (get_or heads.now a 0 ≡ a) }
-{
-    heads[a] as usize == a
+    // The heads, a byte each in class order.
+    pub fn bytes(&self) -> &[u8]
+        ensures { HeadsOf self.now.marks.classes self.now.marks.bytes.now result.now }
+    {
+        &self.heads[..self.marks.classes]
+    }
+
+    // Whether a is its own head.
+    pub fn is_head(&self, a: usize) -> bool
+        requires { a < self.now.marks.classes }
+        ensures { (result ≡ true) ↔ Head self.now.marks.classes self.now.marks.bytes.now a }
+    {
+        self.head(a) == a
+    }
+
+    // Whether c is a head above a, and not a itself. Few classes are above one, so that is asked first.
+    pub fn is_above(&self, a: usize, c: usize) -> bool
+        requires { (a < self.now.marks.classes) × (c < self.now.marks.classes) }
+        ensures { (result ≡ true) ↔ HeadAbove self.now.marks.classes self.now.marks.bytes.now a c }
+    {
+        self.marks.under(a, c) && c != a && self.is_head(c)
+    }
 }

@@ -5,6 +5,5 @@ mod direct;
 mod heads;
 mod thirds;
 
-pub use direct::{is_direct, list_steps};
-pub use heads::find_heads;
-pub use thirds::find_thirds;
+pub use heads::Heads;
+pub use thirds::StepsFrom;

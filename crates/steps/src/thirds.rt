@@ -1,61 +1,79 @@
-// Third heads: those that stand between a head and a class above it.
+// The direct steps from one head. Third heads stand between it and a class above it.
 ghost use Rattle.std.specs.Prelude.{◌≡◌, ◌↔◌, true, ◌<◌, ◌≤◌, length};
-ghost use Rattle.marks.specs.Shape.{Shape};
-ghost use Rattle.steps.specs.HeadsFound.{HeadsFound};
-ghost use Rattle.steps.specs.Between.{HeadAbove, RowAdded, ThirdAdded, NoneYet, ThirdsOf};
+ghost use Rattle.promise.specs.Hierarchy.{Head, Direct};
+ghost use Rattle.marks.specs.Shape.{RowOf};
+ghost use Rattle.steps.specs.Between.{RowAdded, ThirdAdded, ThirdsOf};
 
-use crate::heads::is_head;
-use marks::{YES, index, under};
+use crate::heads::Heads;
+use marks::{Mark, Marks};
+use promise::MOST_CLASSES;
 
-// Whether c is a head above a, and not a itself. Few classes are above one, so that is asked first.
-pub fn is_above(n: usize, table: &[u8], heads: &[u8], a: usize, c: usize) -> bool
-    requires { (HeadsFound n table.now heads.now) × (a < n) × (c < n) }
-    ensures { (result ≡ true) ↔ HeadAbove n table.now a c }
-{
-    let above = under(n, table, a, c);
-    if !above {
-        return false;
-    }
-    if c == a {
-        return false;
-    }
-    is_head(heads, c)
+// A head, and for each class whether a third head stands between it and the class.
+#[derive(Clone, Copy)]
+pub struct StepsFrom<'h, 'a> {
+    pub heads: &'h Heads<'a>,
+    pub from: usize,
+    pub thirds: [bool; MOST_CLASSES],
+    pub ghost head: { Head heads.now.marks.classes heads.now.marks.bytes.now from },
+    pub ghost between: { ThirdsOf heads.now.marks.classes heads.now.marks.bytes.now from thirds },
 }
 
 // The flag of each class that c is under goes up. There is no branch in the loop, so that the compiler makes vector
 // code of it.
-fn add_row(n: usize, table: &[u8], c: usize, thirds: &mut [bool])
-    requires { (Shape n table.now) × (c < n) × (n ≤ length thirds.old) }
-    ensures { RowAdded n table.now c thirds.old thirds.new }
+fn add_row(marks: &Marks<'_>, c: usize, thirds: &mut [bool; MOST_CLASSES])
+    requires { c < marks.now.classes }
+    ensures { RowAdded marks.now.classes marks.now.bytes.now c thirds.old thirds.new }
 {
-    let row = index(n, c, 0);
-    for b in 0..n {
-        thirds[b] = thirds[b] | (table[row + b] == YES);
+    for (third, mark) in thirds.iter_mut().zip(marks.row(c)) {
+        *third = *third | (*mark == Mark::Yes as u8);
     }
 }
 
 // The same, but the flag of c itself stays: c is no third head below itself.
-fn add_third(n: usize, table: &[u8], c: usize, thirds: &mut [bool])
-    requires { (Shape n table.now) × (c < n) × (n ≤ length thirds.old) }
-    ensures { ThirdAdded n table.now c thirds.old thirds.new }
+fn add_third(marks: &Marks<'_>, c: usize, thirds: &mut [bool; MOST_CLASSES])
+    requires { c < marks.now.classes }
+    ensures { ThirdAdded marks.now.classes marks.now.bytes.now c thirds.old thirds.new }
 {
     let own = thirds[c];
-    add_row(n, table, c, &mut *thirds);
+    add_row(marks, c, &mut *thirds);
     thirds[c] = own;
 }
 
 // The flag of b goes up exactly where a third head stands between a and b. A head whose own flag is up is passed over:
 // another third head is under it, and so under all that it is under.
-pub fn find_thirds(n: usize, table: &[u8], heads: &[u8], a: usize, thirds: &mut [bool])
-    requires { (HeadsFound n table.now heads.now) × (a < n) × (NoneYet n thirds.old) }
-    ensures { ThirdsOf n table.now a thirds.new }
+fn find_thirds(heads: &Heads<'_>, a: usize) -> [bool; MOST_CLASSES]
+    requires { a < heads.now.marks.classes }
+    ensures { ThirdsOf heads.now.marks.classes heads.now.marks.bytes.now a result }
 {
-    for c in 0..n {
-        let above = is_above(n, table, heads, a, c);
-        if above {
-            if !thirds[c] {
-                add_third(n, table, c, &mut *thirds);
-            }
+    let mut thirds = [false; MOST_CLASSES];
+    for c in 0..heads.marks.classes {
+        if heads.is_above(a, c) && !thirds[c] {
+            add_third(&heads.marks, c, &mut thirds);
         }
+    }
+    thirds
+}
+
+impl<'h, 'a> StepsFrom<'h, 'a> {
+    // The third heads above a head are found.
+    pub fn of(heads: &'h Heads<'a>, from: usize) -> Self
+        requires { Head heads.now.marks.classes heads.now.marks.bytes.now from }
+        ensures heads { result.heads.now ≡ heads.now }
+        ensures from { result.from ≡ from }
+    {
+        StepsFrom {
+            heads,
+            from,
+            thirds: find_thirds(heads, from),
+        }
+    }
+
+    // Whether there is a direct step to b.
+    pub fn leads_to(&self, b: usize) -> bool
+        requires { b < self.now.heads.now.marks.classes }
+        ensures { (result ≡ true)
+            ↔ Direct self.now.heads.now.marks.classes self.now.heads.now.marks.bytes.now self.now.from b }
+    {
+        !self.thirds[b] && self.heads.is_above(self.from, b)
     }
 }
