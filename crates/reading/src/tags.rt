@@ -1,80 +1,92 @@
 // The table of tags, as far as reading goes by it.
-ghost use Rattle.std.specs.Prelude.{◌≡◌, ◌≤◌, false};
+ghost use Rattle.std.specs.Prelude.{◌≡◌, ◌≤◌, length};
 ghost use Rattle.promise.specs.Book.{row_of};
-ghost use Rattle.reading.specs.Parts.{with_facts, without_facts, row_for, stands_at, allows_length};
+ghost use Rattle.reading.specs.Parts.{row_for, width_of, kind_of, verdict_by, stands_at, allows_length};
 
-use promise::{ANSWERS, CLASS_COUNT, NO_FACTS, Stage, YES_FACTS};
+use promise::{Kind, Stage, Tag};
 
-// The row of a tag: whether it has one; whether its contents are the class count, with which a book begins; and of
-// facts the bytes that each has, whether they are answers, and the verdict of those that are told.
-#[derive(Clone, Copy)]
-pub struct Row {
-    pub known: bool,
-    pub begins: bool,
-    pub width: usize,
-    pub answers: bool,
-    pub verdict: u8,
+// The facts of a field: told, with the verdict of their tag, or given as answers, each with a verdict of its own.
+#[derive(Clone, Copy, Debug, PartialEq, Eq)]
+pub enum Facts {
+    Told(u8),
+    Answered,
 }
 
-// A row of facts.
-fn facts(width: usize, answers: bool, verdict: u8) -> Row
-    ensures { result ≡ with_facts width answers verdict }
-{
-    Row {
-        known: true,
-        begins: false,
-        width: width,
-        answers: answers,
-        verdict: verdict,
+impl Facts {
+    // How many bytes a fact has.
+    pub fn width(self) -> usize
+        ensures { result ≡ width_of self }
+    {
+        match self {
+            Facts::Told(_) => 2,
+            Facts::Answered => 3,
+        }
     }
-}
 
-// A row without facts: that of the class count, or none.
-fn no_facts(begins: bool) -> Row
-    ensures { result ≡ without_facts begins }
-{
-    Row {
-        known: begins,
-        begins: begins,
-        width: 0,
-        answers: false,
-        verdict: 0,
+    // How a fact is taken in.
+    pub fn kind(self) -> Kind
+        ensures { result ≡ kind_of self }
+    {
+        match self {
+            Facts::Told(_) => Kind::Told,
+            Facts::Answered => Kind::Answered,
+        }
     }
-}
 
-// The row of a tag.
-pub fn row_of(tag: u8) -> Row
-    ensures { row_of tag ≡ row_for tag result }
-{
-    if tag == YES_FACTS {
-        return facts(2, false, 1);
-    }
-    if tag == NO_FACTS {
-        return facts(2, false, 0);
-    }
-    if tag == ANSWERS {
-        return facts(3, true, 0);
-    }
-    no_facts(tag == CLASS_COUNT)
-}
-
-// Whether a field with this row may stand at a stage: the class count at the start, facts once it is accepted.
-pub fn stands(row: Row, stage: Stage) -> bool
-    ensures { result ≡ stands_at row.begins stage }
-{
-    match stage {
-        Stage::Start => row.begins,
-        Stage::Begun => !row.begins,
+    // The verdict of the fact with which these bytes begin.
+    pub fn verdict(self, bytes: &[u8]) -> u8
+        requires { width_of self ≤ length bytes.now }
+        ensures { result ≡ verdict_by self bytes.now }
+    {
+        match self {
+            Facts::Told(verdict) => verdict,
+            Facts::Answered => bytes[2],
+        }
     }
 }
 
-// Whether a field with this row may have this length: one byte for the class count, and whole facts.
-pub fn allows(row: Row, size: usize) -> bool
-    requires { row.begins ≡ false → 1 ≤ row.width }
-    ensures { result ≡ allows_length row.begins row.width size }
-{
-    if row.begins {
-        return size == 1;
+// What a field contains: the class count, with which a book begins, or facts.
+#[derive(Clone, Copy, Debug, PartialEq, Eq)]
+pub enum Contents {
+    Classes,
+    Facts(Facts),
+}
+
+impl Contents {
+    // What a field with a tag contains, if it is a tag at all.
+    pub fn tagged(tag: u8) -> Option<Contents>
+        ensures { row_of tag ≡ row_for tag result }
+    {
+        const CLASS_COUNT: u8 = Tag::ClassCount as u8;
+        const YES_FACTS: u8 = Tag::YesFacts as u8;
+        const NO_FACTS: u8 = Tag::NoFacts as u8;
+        const ANSWERS: u8 = Tag::Answers as u8;
+        match tag {
+            CLASS_COUNT => Some(Contents::Classes),
+            YES_FACTS => Some(Contents::Facts(Facts::Told(1))),
+            NO_FACTS => Some(Contents::Facts(Facts::Told(0))),
+            ANSWERS => Some(Contents::Facts(Facts::Answered)),
+            _ => None,
+        }
     }
-    size % row.width == 0
+
+    // Whether they may stand at a stage: the class count at the start, facts once it is accepted.
+    pub fn stand(self, stage: Stage) -> bool
+        ensures { result ≡ stands_at self stage }
+    {
+        match stage {
+            Stage::Start => self == Contents::Classes,
+            Stage::Begun => self != Contents::Classes,
+        }
+    }
+
+    // Whether they may have so many bytes: one for the class count, and whole facts.
+    pub fn allow(self, size: usize) -> bool
+        ensures { result ≡ allows_length self size }
+    {
+        match self {
+            Contents::Classes => size == 1,
+            Contents::Facts(facts) => size % facts.width() == 0,
+        }
+    }
 }

@@ -1,4 +1,0 @@
-pub mod Rows
-pub mod Refusing
-pub mod Following
-pub mod Advance

@@ -1,8 +1,0 @@
--- `reading::fields::byte_at` meets its contract.
--- Assumes nothing.
-use mathlib.Core.Path.{sym}
-use lib.ListN.{get_or-eq_default}
-use Rattle.reading.proofs.fields.byte_at.Goals as goal
-
-pub returns : goal.returns
-returns c = sym (get_or-eq_default c.args.book.now 0 c.if-i-book.false)
