@@ -7,6 +7,8 @@ use native.Mathlib.Decide.{dec_lt}
 use native.Mathlib.Omega.{arith}
 use lib.ListN.{length, get_or, length-append, get_or-append}
 use lib.Seq.{get_or_at}
+use Rattle.std.proofs.Common.{add-one}
+use Rattle.std.proofs.lemmas.List.{length_push}
 use Rattle.buffers.specs.Decimal.{digit_0, digits, decimal}
 
 -- any bound that suffices gives the same digits
@@ -42,6 +44,44 @@ decimal_more x h = rw (digits_some x (x / 10) (omega arith) (omega arith))
 pub one_longer : (x : ℕ) → 10 ≤ x → length (decimal x) ≡ length (decimal (x / 10)) + 1
 one_longer x h = rw (decimal_more x h) (length-append (decimal (x / 10)) ((digit_0 + x % 10) ∷ []))
 
+-- what one digit has, and a number once its other digits have it, every number has
+decimal_by_steps :
+    (P : ℕ → List ℕ → Type 0) → ((x : ℕ) → x < 10 → P x ((digit_0 + x) ∷ []))
+    → ((x : ℕ) (w : List ℕ) → 10 ≤ x → P (x / 10) w → P x (w ++ (digit_0 + x % 10) ∷ []))
+    → (x : ℕ) → P x (decimal x)
+decimal_by_steps P one more x = go x x (omega arith)
+  where
+    next : (x : ℕ) → Dec (x < 10) → P (x / 10) (decimal (x / 10)) → P x (decimal x)
+    next x (yes l) p = rw (decimal_one x l) (one x l)
+    next x (no l) p = rw (decimal_more x (omega arith)) (more x _ (omega arith) p)
+
+    go : (k x : ℕ) → x ≤ k → P x (decimal x)
+    go zero x h = rw (decimal_one x (omega arith)) (one x (omega arith))
+    go (suc k) x h = next x (dec_lt x 10) (go k (x / 10) (omega arith))
+
+-- a number with k digits more than one has its kth power of ten in it, and not the next
+pub digits_counted : (k x : ℕ) → 10 ^ k ≤ x → x < 10 * 10 ^ k → length (decimal x) ≡ k + 1
+digits_counted zero x low high = ap (λ (w : List ℕ). length w) (decimal_one x (omega arith))
+digits_counted (suc k) x low high =
+    omega (arith, one_longer x (omega arith), digits_counted k (x / 10) (omega arith) (omega arith))
+
+-- the last k digits of x
+unfoldable pub last_digits : ℕ → ℕ → List ℕ
+last_digits zero x = []
+last_digits (suc k) x = last_digits k (x / 10) ++ (digit_0 + x % 10) ∷ []
+
+pub last_more : (j k x : ℕ) → k ≡ j + 1 → last_digits k x ≡ last_digits j (x / 10) ++ (digit_0 + x % 10) ∷ []
+unfolding last_digits
+last_more j k x e = rw (e, add-one)
+
+-- they are all of them
+pub last_all : (x : ℕ) → decimal x ≡ last_digits (length (decimal x)) x
+unfolding last_digits
+last_all =
+    decimal_by_steps (λ x w. w ≡ last_digits (length w) x)
+    (λ x h. let same : x % 10 ≡ x = omega arith in rw same)
+    (λ x w h e. rw (last_more (length w) _ x (length_push w (digit_0 + x % 10)), ← e))
+
 -- the number that digits make, behind those that made v
 unfoldable pub value_from : ℕ → List ℕ → ℕ
 value_from v [] = v
@@ -74,9 +114,9 @@ written_one x h =
     single : (i : ℕ) → i < 1 → i ≡ 0
     single i l = omega arith
 
-written_more : (x : ℕ) {w : List ℕ} → 10 ≤ x → Written (x / 10) w → Written x (w ++ (digit_0 + x % 10) ∷ [])
+written_more : (x : ℕ) (w : List ℕ) → 10 ≤ x → Written (x / 10) w → Written x (w ++ (digit_0 + x % 10) ∷ [])
 unfolding value_from
-written_more x {w} h p =
+written_more x w h p =
     let d = digit_0 + x % 10 in
     record {
       value = value_more 0 w d ∙ omega (arith, p.value);
@@ -100,16 +140,8 @@ written_more x {w} h p =
     less (suc (suc k)) some l =
         omega (arith, length-append w ((digit_0 + x % 10) ∷ []), p.short (suc k) (omega arith) (omega arith))
 
-written_from : (x : ℕ) → Dec (x < 10) → Written (x / 10) (decimal (x / 10)) → Written x (decimal x)
-written_from x (yes l) p = rw (decimal_one x l) (written_one x l)
-written_from x (no l) p = rw (decimal_more x (omega arith)) (written_more x (omega arith) p)
-
 pub decimal_written : (x : ℕ) → Written x (decimal x)
-decimal_written x = go x x (omega arith)
-  where
-    go : (k x : ℕ) → x ≤ k → Written x (decimal x)
-    go zero x h = rw (decimal_one x (omega arith)) (written_one x (omega arith))
-    go (suc k) x h = written_from x (dec_lt x 10) (go k (x / 10) (omega arith))
+decimal_written = decimal_by_steps Written written_one written_more
 
 -- any usize has at most 20 digits
 pub decimal_longest : (x : ℕ) → x < 18446744073709551616 → length (decimal x) ≤ 20

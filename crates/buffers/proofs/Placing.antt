@@ -2,7 +2,7 @@
 -- Assumes nothing.
 use mathlib.Core.Path.{◌≡◌, refl, sym, ◌∙◌, ap}
 use mathlib.Core.List.{List, [], ◌∷◌, ◌++◌}
-use Prim.Native.Nat.{ℕ, zero, suc, ◌+◌, ◌≤◌, ◌<◌}
+use Prim.Native.Nat.{ℕ, zero, suc, ◌+◌, ◌-◌, ◌≤◌, ◌<◌}
 use native.Mathlib.Omega.{arith}
 use lib.ListN.{length, set, length-append, take-append-drop}
 use Rattle.promise.proofs.Counts.{over_fits}
@@ -83,3 +83,11 @@ put_before {w} {x} first second =
       ends = omega (arith, first.ends, second.ends, length-append w x);
       fits = first.fits;
     }
+
+-- one byte was stored right before what was put
+pub put_front :
+    {w : List ℕ} {at : ℕ} {out : List ℕ} {behind : ℕ} {out' : List ℕ} (x : ℕ) → 0 < at → Put w at out behind out'
+    → Put (x ∷ w) (at - 1) out behind (set out' (at - 1) x)
+put_front {at = at} {out' = out'} x some h =
+    let next : at - 1 + 1 ≡ at = omega arith in
+    put_before h (rw next at (put_one {at = at - 1} {out = out'} x (omega (arith, h.ends, h.fits, put_length h))))

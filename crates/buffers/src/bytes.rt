@@ -4,6 +4,7 @@ ghost use Rattle.buffers.specs.Placed.{Placed, Put};
 ghost use Rattle.buffers.specs.Noted.{PairPut};
 
 // One byte. Gives the index behind it.
+#[tactic(auto, using(crate::proofs::Placing::put_one))]
 pub fn put_byte(out: &mut [u8], at: usize, byte: u8) -> usize
     requires { at < length out.old }
     ensures { Put (byte ∷ []) at out.old result out.new }
@@ -18,8 +19,7 @@ pub fn put_pair(out: &mut [u8], at: usize, a: usize, b: usize)
     ensures { PairPut at a b out.old out.new }
 {
     if at + 2 <= out.len() {
-        let next = put_byte(&mut *out, at, a as u8);
-        put_byte(out, next, b as u8);
+        out[at..at + 2].copy_from_slice(&[a as u8, b as u8]);
     }
 }
 
@@ -28,7 +28,5 @@ pub fn copy_front(n: usize, from: &[u8], out: &mut [u8])
     requires { (n ≤ length from.now) × (n ≤ length out.old) }
     ensures { Placed (take n from.now) 0 out.old out.new }
 {
-    for i in 0..n {
-        out[i] = from[i];
-    }
+    out[..n].copy_from_slice(&from[..n]);
 }

@@ -1,8 +1,11 @@
-// Bytes in lent buffers: one byte, a pair, a run of bytes, a number as text. No byte but these is changed.
+// Bytes in lent buffers: one byte, a pair, a run of bytes, a number as text, what an input gives. No byte but these is
+// changed.
 #![tactic(auto)]
 
 mod bytes;
+mod input;
 mod numbers;
 
 pub use bytes::{copy_front, put_byte, put_pair};
+pub use input::fill;
 pub use numbers::put_number;

@@ -4,16 +4,13 @@ ghost use Rattle.buffers.specs.Placed.{Put};
 ghost use Rattle.buffers.specs.Decimal.{decimal};
 
 // How many digits a number has.
+#[tactic(auto, using(crate::proofs::Decimals::digits_counted, crate::proofs::Decimals::decimal_one))]
 fn count_digits(number: usize) -> usize
     ensures { result ≡ length (decimal number) }
 {
-    let mut count: usize = 1;
-    let mut rest = number;
-    while 10 <= rest {
-        rest = rest / 10;
-        count += 1;
-    }
-    count
+    number
+        .checked_ilog10()
+        .map_or(1, |power| power as usize + 1)
 }
 
 // A number in decimal, its digits written from the last to the first. Gives the index behind it.
@@ -22,13 +19,10 @@ pub fn put_number(out: &mut [u8], at: usize, number: usize) -> usize
     ensures { Put (decimal number) at out.old result out.new }
 {
     let behind = at + count_digits(number);
-    let mut left = behind;
     let mut rest = number;
-    while 10 <= rest {
-        left -= 1;
+    for left in (at..behind).rev() {
         out[left] = b'0' + (rest % 10) as u8;
-        rest = rest / 10;
+        rest /= 10;
     }
-    out[at] = b'0' + rest as u8;
     behind
 }
