@@ -2,7 +2,7 @@
 -- an outcome and `*_fixed` here leave one value.
 -- Assumes nothing.
 use mathlib.Core.Path.{◌≡◌, refl, sym, ap, ap₂, ◌∙◌}
-use mathlib.Core.List.{List}
+use mathlib.Core.Bool.{true, false, false≢true}
 use Prim.Native.Nat.{ℕ, zero, suc, ◌<◌}
 use native.Mathlib.Omega.{arith}
 use Rattle.std.specs.Prelude.{Option, Some, None, Result, Ok, Err}
@@ -18,7 +18,7 @@ use Rattle.promise.specs.declared.Refusal.TheVariants.{MisplacedTag, BadLength, 
 use Rattle.promise.specs.declared.RefusedBook.{RefusedBook}
 use Rattle.promise.specs.Refusals.{number_of}
 use Rattle.promise.specs.Calls.{count_for, count_of, reply_of}
-use Rattle.promise.specs.Next.{Question, question_of, question_for}
+use Rattle.promise.specs.Next.{question_of, question_for}
 use Rattle.promise.specs.Book.{reply_of_read}
 
 -- the refusal of a number
@@ -108,6 +108,10 @@ read_fixed (Err refused) (Err other) e =
     let session : refused.session ≡ other.session = ap (λ (reply : Reply). reply.session) e in
     ap Err (book_fixed why place session)
 
+-- a question that asks is none that does not
+unlike : {A : Type 0} → true ≡ false → A
+unlike e = absurd (false≢true (sym e))
+
 -- as C gets the question and the count, where the cases of one number differ in their other values
 pub question_fixed :
     (x y : Result (Option Asked) Refusal) → question_for (question_of x) ≡ question_for (question_of y) → x ≡ y
@@ -115,13 +119,13 @@ question_fixed (Ok (Some a)) (Ok (Some b)) e =
     let lower : a.lower ≡ b.lower = ap (λ (q : CrossedQuestion). q.lower) e in
     let upper : a.upper ≡ b.upper = ap (λ (q : CrossedQuestion). q.upper) e in
     ap (λ (asked : Asked). Ok (Some asked)) (asked_fixed lower upper)
-question_fixed (Ok (Some a)) (Ok None) e = cc
-question_fixed (Ok (Some a)) (Err why) e = cc
-question_fixed (Ok None) (Ok (Some b)) e = cc
+question_fixed (Ok (Some a)) (Ok None) e = unlike (ap (λ (q : CrossedQuestion). q.asks) e)
+question_fixed (Ok (Some a)) (Err why) e = unlike (ap (λ (q : CrossedQuestion). q.asks) e)
+question_fixed (Ok None) (Ok (Some b)) e = unlike (sym (ap (λ (q : CrossedQuestion). q.asks) e))
 question_fixed (Ok None) (Ok None) e = refl
 question_fixed (Ok None) (Err why) e =
     absurd (omega (arith, number_positive why, ap (λ (q : CrossedQuestion). q.number) e))
-question_fixed (Err why) (Ok (Some b)) e = cc
+question_fixed (Err why) (Ok (Some b)) e = unlike (sym (ap (λ (q : CrossedQuestion). q.asks) e))
 question_fixed (Err why) (Ok None) e =
     absurd (omega (arith, number_positive why, ap (λ (q : CrossedQuestion). q.number) e))
 question_fixed (Err why) (Err other) e = ap Err (number_fixed why other (ap (λ (q : CrossedQuestion). q.number) e))
