@@ -23,7 +23,7 @@ row_lt : (n a a' b b' : ℕ) → a < a' → b < n → a * n + b < a' * n + b'
 row_lt n a a' b b' h hb = omega (arith, mul-le-mul_right {m = suc a} {n = a'} n h, suc-mul a n)
 
 -- two pairs with one index are one pair
-pub index_row : (n a a' b b' : ℕ) → b < n → b' < n → a * n + b ≡ a' * n + b' → a ≡ a'
+index_row : (n a a' b b' : ℕ) → b < n → b' < n → a * n + b ≡ a' * n + b' → a ≡ a'
 index_row n a a' b b' hb hb' e = go (dec_lt a a') (dec_lt a' a)
   where
     go : Dec (a < a') → Dec (a' < a) → a ≡ a'
@@ -31,7 +31,7 @@ index_row n a a' b b' hb hb' e = go (dec_lt a a') (dec_lt a' a)
     go (no l) (yes g) = absurd (omega (arith, row_lt n a' a b' b g hb'))
     go (no l) (no g) = omega arith
 
-pub index_column : (n a a' b b' : ℕ) → b < n → b' < n → a * n + b ≡ a' * n + b' → b ≡ b'
+index_column : (n a a' b b' : ℕ) → b < n → b' < n → a * n + b ≡ a' * n + b' → b ≡ b'
 index_column n a a' b b' hb hb' e = omega (arith, ap (λ (k : ℕ). k * n) (index_row n a a' b b' hb hb' e))
 
 -- the byte at the index of (a, b) is its mark
