@@ -1,2 +1,4 @@
+pub mod FromFn
 pub mod Pass
 pub mod Passes
+pub mod Rows

@@ -20,8 +20,8 @@ fn mark_row(row: &mut [u8], ys: &[bool; MOST_CLASSES], v: Mark)
     requires { length row.old ≤ 128 }
     ensures { RowMarked ys.now v row.old row.new }
 {
-    for (mark, flag) in row.iter_mut().zip(ys) {
-        *mark = if *flag { v as u8 } else { *mark };
+    for (y, mark) in row.iter_mut().enumerate() {
+        *mark = if ys[y] { v as u8 } else { *mark };
     }
 }
 
