@@ -53,15 +53,15 @@ pub fn take_yes(n: usize, table: &mut [u8], a: usize, b: usize)
 {
     let marks = Marks {
         classes: n,
-        bytes: &*table,
+        bytes: table,
     };
     let under_a = column_flags(&marks, a, Mark::Yes);
     let above_b = row_flags(&marks, b, Mark::Yes);
     let not_above_a = row_flags(&marks, a, Mark::No);
     let not_under_b = column_flags(&marks, b, Mark::No);
-    spread(n, &mut *table, &under_a, &above_b, Mark::Yes);
-    spread(n, &mut *table, &above_b, &not_above_a, Mark::No);
-    spread(n, &mut *table, &not_under_b, &under_a, Mark::No);
+    spread(n, table, &under_a, &above_b, Mark::Yes);
+    spread(n, table, &above_b, &not_above_a, Mark::No);
+    spread(n, table, &not_under_b, &under_a, Mark::No);
 }
 
 // c is not under d. What is above c is not under what is under d.
@@ -71,9 +71,9 @@ pub fn take_no(n: usize, table: &mut [u8], c: usize, d: usize)
 {
     let marks = Marks {
         classes: n,
-        bytes: &*table,
+        bytes: table,
     };
     let above_c = row_flags(&marks, c, Mark::Yes);
     let under_d = column_flags(&marks, d, Mark::Yes);
-    spread(n, &mut *table, &above_c, &under_d, Mark::No);
+    spread(n, table, &above_c, &under_d, Mark::No);
 }
