@@ -5,7 +5,6 @@ ghost use Rattle.promise.specs.Refusals.{First, standing};
 ghost use Rattle.promise.specs.Calls.{Owed, reply_of, tested};
 ghost use Rattle.promise.specs.Tell.{adds, tell};
 ghost use Rattle.passes.specs.Taken.{OpenPair, FactTaken};
-ghost use Rattle.session.specs.Facts.{Judged};
 
 use marks::{Mark, Marks};
 use promise::{Kind, Refusal, Session};
@@ -22,17 +21,6 @@ fn take_in(n: usize, table: &mut [u8], lower: usize, upper: usize, holds: bool)
     }
 }
 
-// A fact on a settled pair agrees or contradicts, and changes nothing.
-fn judge(session: Session, agrees: bool) -> Result<Session, Refusal>
-    ensures { Judged session agrees (reply_of session result) }
-{
-    if agrees {
-        Ok(session)
-    } else {
-        Err(Refusal::Contradicted)
-    }
-}
-
 // The session after a fact on an open pair: an answer is one test more.
 fn tested(session: Session, kind: Kind) -> Session
     requires { session.tests < 16384 }
@@ -41,8 +29,8 @@ fn tested(session: Session, kind: Kind) -> Session
     match kind {
         Kind::Told => session,
         Kind::Answered => Session {
-            classes: session.classes,
             tests: session.tests + 1,
+            ..session
         },
     }
 }
@@ -68,13 +56,13 @@ pub fn take_fact(
         classes: n,
         bytes: &*table,
     };
-    match marks.mark(lower, upper) {
-        Mark::Yes => judge(session, holds),
-        Mark::No => judge(session, !holds),
-        Mark::Open => {
+    match (marks.mark(lower, upper), holds) {
+        (Mark::Open, _) => {
             take_in(n, &mut *table, lower, upper, holds);
             Ok(tested(session, kind))
         }
+        (Mark::Yes, true) | (Mark::No, false) => Ok(session),
+        (Mark::Yes, false) | (Mark::No, true) => Err(Refusal::Contradicted),
     }
 }
 
