@@ -11,5 +11,5 @@ pub fn flags_of(played: &[u8]) -> [bool; MOST_CLASSES]
     requires { length played.now ≤ 128 }
     ensures { SameFlags (flags_of played.now) result }
 {
-    array::from_fn(|class| played.get(class).is_some_and(|byte| *byte != 0))
+    array::from_fn(|class| played.get(class).copied().unwrap_or(0) != 0)
 }

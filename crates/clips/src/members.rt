@@ -16,16 +16,17 @@ pub fn none_beyond(n: usize, played: &[bool]) -> bool
     !played.iter().skip(n).any(|member| *member)
 }
 
-// Whether a class is marked as under members only.
+// Whether a class is marked as under members only. The flag is folded without a branch, so that the compiler makes
+// vector code of it.
 fn under_members(marks: &Marks<'_>, class: usize, played: &[bool; MOST_CLASSES]) -> bool
     requires { class < marks.now.classes }
     ensures { (result ≡ true) ↔ UnderMembers marks.now.classes marks.now.bytes.now played.now class }
 {
-    marks
-        .row(class)
-        .iter()
-        .zip(played)
-        .all(|(mark, member)| *member || *mark != Mark::Yes as u8)
+    let row = marks.row(class).iter().zip(played);
+    !row.fold(
+        false,
+        |wrong, (mark, member)| wrong | ((*mark == Mark::Yes as u8) & !*member),
+    )
 }
 
 // Whether none of the clip's noes contradicts: no member is marked as under a non-member.
