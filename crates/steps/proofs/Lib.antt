@@ -1,3 +1,2 @@
-pub mod Lowest
 pub mod HeadsFound
-pub mod Between
+

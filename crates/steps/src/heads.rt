@@ -7,7 +7,6 @@ ghost use Rattle.steps.specs.Between.{HeadAbove};
 
 use marks::Marks;
 use promise::MOST_CLASSES;
-use std::array;
 
 // The marks of a sound table, and the head of each of its classes.
 #[derive(Clone, Copy)]
@@ -39,11 +38,10 @@ impl<'a> Heads<'a> {
         requires { Sound marks.now.classes marks.now.bytes.now }
         ensures { result.marks ≡ marks.now }
     {
-        let heads = array::from_fn(|a| if a < marks.classes {
-            head_of(marks, a) as u8
-        } else {
-            0
-        });
+        let mut heads = [0; MOST_CLASSES];
+        for a in 0..marks.classes {
+            heads[a] = head_of(marks, a) as u8;
+        }
         Heads {
             marks: *marks,
             heads,

@@ -24,8 +24,8 @@ fn add_row(marks: &Marks<'_>, c: usize, thirds: &mut [bool; MOST_CLASSES])
     requires { c < marks.now.classes }
     ensures { RowAdded marks.now.classes marks.now.bytes.now c thirds.old thirds.new }
 {
-    for (third, mark) in thirds.iter_mut().zip(marks.row(c)) {
-        *third = *third | (*mark == Mark::Yes as u8);
+    for (b, mark) in marks.row(c).iter().enumerate() {
+        thirds[b] = thirds[b] | (*mark == Mark::Yes as u8);
     }
 }
 
