@@ -13,7 +13,7 @@ use Rattle.steps.specs.HeadsFound.{HeadsFound}
 pub first_equal :
     {n : ℕ} {t : List ℕ} {a : ℕ} (r : Option ℕ) → Sound n t → a < n
     → MatchOption r ((k : ℕ) → 0 ≤ k → k < a → ¬ Equal n t a k)
-      (λ i. (0 ≤ i) × (i < a) × Equal n t a i × ((k : ℕ) → 0 ≤ k → k < i → ¬ Equal n t a k))
+    (λ i. (0 ≤ i) × (i < a) × Equal n t a i × ((k : ℕ) → 0 ≤ k → k < i → ¬ Equal n t a k))
     → HeadOf n t a (unwrap_or r a)
 first_equal {n} {t} {a} None sound below none =
     let same = sound.diagonal a below in

@@ -1,2 +1,2 @@
 pub mod HeadsFound
-
+pub mod Between

@@ -1,6 +1,6 @@
 -- Third heads, found for one head a: a flag for each class.
 -- Assumes nothing.
-use Rattle.std.specs.Prelude.{◌≡◌, ◌↔◌, ◌≢◌, ◌⊎◌, Bool, true, false, ◌||◌, List, ℕ, ◌<◌, eqb, get_or}
+use Rattle.std.specs.Prelude.{◌≡◌, ◌↔◌, ◌≢◌, Bool, false, ◌||◌, List, ℕ, ◌<◌, eqb, get_or}
 use Rattle.order.specs.Tables.{mark}
 use Rattle.promise.specs.Hierarchy.{Under, Head, Third}
 
@@ -17,7 +17,8 @@ pub record RowAdded (n : ℕ) (t : List ℕ) (c : ℕ) (flags flags' : List Bool
 -- the same, but the flag of c is as it was
 pub record ThirdAdded (n : ℕ) (t : List ℕ) (c : ℕ) (flags flags' : List Bool) : Type 0 where
   pub at :
-      (b : ℕ) → b < n → (get_or flags' b false ≡ true) ↔ ((get_or flags b false ≡ true) ⊎ ((c ≢ b) × Under n t c b))
+      (b : ℕ) → b < n
+      → (get_or flags' b false ≡ false) ↔ ((get_or flags b false ≡ false) × (c ≢ b → ¬ Under n t c b))
 
 -- the flag of a class b is down exactly where no third head stands between a and b
 pub record ThirdsOf (n : ℕ) (t : List ℕ) (a : ℕ) (flags : List Bool) : Type 0 where

@@ -1,6 +1,6 @@
 -- What the functions over heads and steps need, and what they leave.
 -- Assumes nothing.
-use Rattle.std.specs.Prelude.{List, ℕ, ◌≤◌, ◌<◌, length, get_or}
+use Rattle.std.specs.Prelude.{List, ℕ, ◌<◌, get_or}
 use Rattle.order.specs.Tables.{Sound, Pair}
 use Rattle.promise.specs.Hierarchy.{HeadOf, StepsOf}
 use Rattle.buffers.specs.Noted.{Noted}

@@ -1,6 +1,6 @@
 -- `steps::heads::head_of` meets its contract: what is found is the first equal class.
 -- Assumes nothing.
-use Rattle.std.proofs.Common.{rules, tests}
+use Rattle.std.proofs.Common.{rules}
 use Rattle.std.proofs.lemmas.Iterator.{first_from_Range}
 use Rattle.promise.specs.Hierarchy.{Equal}
 use Rattle.steps.proofs.HeadsFound.{first_equal}
