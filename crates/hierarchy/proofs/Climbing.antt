@@ -1,16 +1,15 @@
 -- A climb, rung by rung: what is left above a rung, and the rung written under it.
 -- Assumes nothing.
-use mathlib.Core.Path.{◌≡◌, refl}
-use mathlib.Core.List.{List, [], ◌∷◌}
-use Prim.Native.Nat.{ℕ, ◌+◌, ◌≤◌, ◌<◌}
-use native.Mathlib.Omega.{arith}
-use lib.ListN.{length, get_or, set}
-use Rattle.promise.specs.Hierarchy.{HeadOf, NextRung, Ladder}
+use Rattle.std.proofs.Common.{◌≡◌, ◌+◌, ◌≤◌, ◌<◌, ℕ, List, [], ◌∷◌, length, get_or, set, refl, arith}
+use Rattle.std.proofs.Common.{Option, Some, None}
+use Rattle.std.specs.Option.{MatchOption}
+use native.Mathlib.Decide.{dec_lt}
+use Rattle.order.specs.Tables.{Sound}
+use Rattle.promise.specs.Hierarchy.{Under, HeadOf, Direct, NextRung, Ladder}
 use Rattle.promise.proofs.Hierarchy.{head_unique}
-use Rattle.promise.proofs.Ladder.{to_go, rung_falls, head_of_equal}
+use Rattle.promise.proofs.Ladder.{to_go, rung_falls, rung_there, head_of_equal}
 use Rattle.buffers.specs.Placed.{Placed}
 use Rattle.buffers.proofs.Placing.{placed_before, put_none, put_one}
-use Rattle.steps.specs.HeadsFound.{HeadsFound}
 use Rattle.hierarchy.specs.Climb.{BelowGoal, Reached, Climbed}
 
 -- the rungs beyond this one, and out₁ as the climb from there left it
@@ -76,30 +75,48 @@ module _ {n : ℕ} {t : List ℕ} {goal rung before : ℕ} {out : List ℕ} wher
           unwritten = h.unwritten;
         }
 
+-- c is directly above the rung and under the goal
+abbrev pub LeadsOn : ℕ → List ℕ → ℕ → ℕ → ℕ → Type 0
+LeadsOn n t goal rung c = Direct n t rung c × Under n t c goal
+
+-- where one leads on, the first below n that does is the next rung
+abbrev pub FirstOn : ℕ → List ℕ → ℕ → ℕ → Option ℕ → Type 0
+FirstOn n t goal rung r =
+    MatchOption r ((c : ℕ) → 0 ≤ c → c < n → ¬ LeadsOn n t goal rung c)
+    (λ i. (0 ≤ i) × (i < n) × LeadsOn n t goal rung i × ((c : ℕ) → 0 ≤ c → c < i → ¬ LeadsOn n t goal rung c))
+
+pub next_found :
+    {n : ℕ} {t : List ℕ} {goal rung : ℕ} (r : Option ℕ) → Sound n t → BelowGoal n t goal rung
+    → FirstOn n t goal rung r → (next : ℕ) × (r ≡ Some next) × NextRung n t goal rung next
+next_found {n} {t} None sound b none =
+    let d = rung_there n t sound b.goal_below b.head b.under b.not_yet in
+    absurd (none d.0 (omega arith) d.1.direct.to.below (d.1.direct, d.1.under))
+next_found {n} {t} {goal} {rung} (Some i) sound b (_, below, on, none) =
+    (i, refl, record { direct = on.0; under = on.1; lowest = λ c d u. go c (d, u) (dec_lt c i) })
+  where
+    go : (c : ℕ) → LeadsOn n t goal rung c → Dec (c < i) → i ≤ c
+    go c p (yes l) = absurd (none c (omega arith) l p)
+    go c p (no l) = omega arith
+
 module _
-    {n : ℕ} {t heads : List ℕ} {goal rung before : ℕ} (f : HeadsFound n t heads) (r : Reached n t goal rung before)
+    {n : ℕ} {t : List ℕ} {goal rung before top : ℕ} (sound : Sound n t) (r : Reached n t goal rung before)
+    (h : HeadOf n t goal top)
   where
     -- at the goal's head the ladder ends; below it there is a next rung
-    pub at_top : rung ≡ get_or heads goal 0 → HeadOf n t goal rung
-    at_top e = rw (← e) at (f.at goal r.goal_below)
-
-    pub not_top : ¬ (rung ≡ get_or heads goal 0) → BelowGoal n t goal rung
+    pub not_top : ¬ (rung ≡ top) → BelowGoal n t goal rung
     not_top differ =
         record {
           goal_below = r.goal_below;
           head = r.head;
           under = r.under;
-          not_yet = λ back.
-              differ
-              (head_unique (head_of_equal n t f.table.sound r.goal_below r.head r.under back)
-              (f.at goal r.goal_below));
+          not_yet = λ back. differ (head_unique (head_of_equal n t sound r.goal_below r.head r.under back) h);
         }
 
     -- "the number of heads strictly above the rung and under the goal falls"
     pub next_reached : {next : ℕ} → NextRung n t goal rung next → Reached n t goal next (before + 1)
     next_reached {next} d =
         let left = to_go n t goal next in
-        let falls = rung_falls n t f.table.sound d left.1 r.number in
+        let falls = rung_falls n t sound d left.1 r.number in
         record {
           goal_below = r.goal_below;
           head = d.direct.to;

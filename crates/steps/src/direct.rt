@@ -1,4 +1,5 @@
 // The direct steps.
+ghost use Rattle.std.specs.Prelude.{◌≤◌};
 ghost use Rattle.steps.specs.HeadsFound.{StepsNoted};
 
 use crate::heads::Heads;
@@ -6,10 +7,11 @@ use crate::thirds::StepsFrom;
 use buffers::put_pair;
 
 impl Heads<'_> {
-    // Counts the direct steps. Each is written, two bytes, ordered by a and then b, if it fits: a buffer with room for
-    // all gets all.
+    // Counts the direct steps, of which 128 classes have at most 4096. Each is written, two bytes, ordered by a and
+    // then b, if it fits: a buffer with room for all gets all.
     pub fn list_steps(&self, steps: &mut [u8]) -> usize
-        ensures { StepsNoted self.now.marks.classes self.now.marks.bytes.now steps.old result steps.new }
+        ensures noted { StepsNoted self.now.marks.classes self.now.marks.bytes.now steps.old result steps.new }
+        ensures few { result ≤ 4096 }
     {
         let n = self.marks.classes;
         let mut count: usize = 0;

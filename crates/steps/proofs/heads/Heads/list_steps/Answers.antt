@@ -3,6 +3,8 @@
 use Rattle.std.proofs.Common.{◌+◌, ◌<◌, ℕ, zero, suc, List, refl, arith, add-one}
 use Rattle.promise.specs.Hierarchy.{Head, Direct}
 use Rattle.promise.proofs.Hierarchy.{dec_direct}
+use Rattle.promise.proofs.Standing.{square}
+use Rattle.promise.proofs.Triangles.{steps_few}
 use Rattle.marks.proofs.Answers.{refuted}
 use Rattle.buffers.proofs.Noting.{SoFar, so_far_none, few, hit, miss, row_end, all_noted}
 use Rattle.steps.proofs.heads.Heads.list_steps.Goals as goal
@@ -55,4 +57,10 @@ pub loop-a-preserved : goal.loop-a-preserved
 loop-a-preserved c = row_end c.loop-b.invariant (omega arith)
 
 pub returns : goal.returns
-returns c = all_noted (omega arith) c.loop-a.invariant
+returns c =
+    let f = c.args.self.now in
+    let all = all_noted (omega arith) c.loop-a.invariant in
+    record {
+      noted = all;
+      few = omega (arith, all.2.counted, steps_few f.found.sound all.1, square _ f.marks.shape.few);
+    }
