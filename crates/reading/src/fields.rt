@@ -1,5 +1,8 @@
 // A field of a book: its head, and the facts that it says.
-ghost use Rattle.std.specs.Prelude.{◌≡◌, [], ◌∷◌, ◌+◌, ◌≤◌, ◌<◌, length, get_or};
+ghost use Rattle.std.specs.Prelude.{◌≡◌, [], ◌∷◌, ◌+◌, ◌%◌, ◌^◌, ◌≤◌, ◌<◌, length, get_or, drop};
+ghost use Rattle.promise.specs.Refusals.{First, standing};
+ghost use Rattle.promise.specs.Book.{reply_of_read};
+ghost use Rattle.reading.specs.Parts.{width_of, fact_at, placed_at, PartFollowed};
 
 use crate::tags::{Contents, Facts};
 use promise::{Refusal, RefusedBook, Session, Stage};
@@ -17,13 +20,15 @@ pub struct Field<'b> {
     pub place: usize,
     pub bytes: &'b [u8],
     pub ghost some: { 0 < length bytes.now },
-    pub ghost fits: { place + length bytes.now ≤ usize.MAX },
+    pub ghost fits: { place + length bytes.now < 2 ^ 64 },
 }
 
 impl<'b> Field<'b> {
-    ghost use Rattle.std.specs.Prelude.{IfOk};
-    ghost use Rattle.promise.specs.Refusals.{First, number_by};
+    ghost use Rattle.std.specs.Prelude.{MatchResult};
+    ghost use Rattle.promise.specs.Refusals.{number_of};
     ghost use Rattle.promise.specs.Book.{length_of, field_refusals};
+    ghost use Rattle.promise.specs.declared.Stage.TheVariants.{Begun};
+    ghost use Rattle.reading.specs.Parts.{FieldRight, facts_at, field_at};
 
     // The byte at an index, 0 behind the end.
     fn byte(&self, i: usize) -> u8
@@ -41,16 +46,17 @@ impl<'b> Field<'b> {
 
     // What the field contains, or the refusal that it gives by its head.
     fn contents(&self, stage: Stage) -> Result<Contents, Refusal>
-        ensures { First (field_refusals stage self.now.bytes.now) (number_by result) }
+        ensures { MatchResult result (FieldRight stage self.now.bytes.now)
+            (λ why. First (field_refusals stage self.now.bytes.now) (number_of why)) }
     {
         if self.bytes.len() < 3 {
             return Err(Refusal::CutShort);
         }
         let contents = Contents::tagged(self.byte(0)).ok_or(Refusal::UnknownTag)?;
-        let size = self.length();
         if !contents.stand(stage) {
             return Err(Refusal::MisplacedTag);
         }
+        let size = self.length();
         if !contents.allow(size) {
             return Err(Refusal::BadLength);
         }
@@ -60,13 +66,20 @@ impl<'b> Field<'b> {
         Ok(contents)
     }
 
-    // The facts of the field, from the left.
+    // The facts of the field are followed from the left.
     fn follow(
         &self,
         facts: Facts,
         session: Session,
         table: &mut [u8],
-    ) -> Result<Session, RefusedBook> {
+    ) -> Result<Session, RefusedBook>
+        requires whole { length_of self.now.bytes.now % width_of facts ≡ 0 }
+        requires within { 3 + length_of self.now.bytes.now ≤ length self.now.bytes.now }
+        requires stands { First (standing session table.old []) 0 }
+        ensures { PartFollowed
+            (facts_at facts (length_of self.now.bytes.now) (self.now.place + 3) (drop 3 self.now.bytes.now))
+            session table.old (reply_of_read result) table.new }
+    {
         let mut session = session;
         for at in (3..3 + self.length()).step_by(facts.width()) {
             session = fact(
@@ -86,24 +99,30 @@ impl<'b> Field<'b> {
         stage: Stage,
         session: Session,
         table: &mut [u8],
-    ) -> Result<Session, RefusedBook> {
-        let place = self.place;
-        let contents = self.contents(stage).map_err(|why| RefusedBook {
-            why: why,
-            place: place,
-            session: session,
-        })?;
-        match contents {
-            Contents::Classes => session::fresh(self.byte(3) as usize, table).map_err(
-                |why| RefusedBook {
-                    why: why,
-                    place: place,
-                    session: NO_SESSION,
-                },
-            ),
+    ) -> Result<Session, RefusedBook>
+        requires { stage ≡ Begun → First (standing session table.old []) 0 }
+        ensures { PartFollowed (field_at stage self.now.place self.now.bytes.now) session table.old
+            (reply_of_read result) table.new }
+    {
+        match placed(self.contents(stage), self.place, session)? {
+            Contents::Classes => {
+                let begun = session::fresh(self.byte(3) as usize, table);
+                placed(begun, self.place, NO_SESSION)
+            }
             Contents::Facts(facts) => self.follow(facts, session, table),
         }
     }
+}
+
+// A refusal inside a book gets its place, and the session that it gives back.
+fn placed<T>(outcome: Result<T, Refusal>, place: usize, session: Session) -> Result<T, RefusedBook>
+    ensures { result ≡ placed_at place session outcome }
+{
+    outcome.map_err(|why| RefusedBook {
+        why,
+        place,
+        session,
+    })
 }
 
 // The fact with which these bytes begin is told, or given as an answer.
@@ -113,16 +132,21 @@ fn fact(
     bytes: &[u8],
     session: Session,
     table: &mut [u8],
-) -> Result<Session, RefusedBook> {
-    let refused = |why| RefusedBook {
-        why: why,
-        place: place,
-        session: session,
-    };
+) -> Result<Session, RefusedBook>
+    requires within { width_of facts ≤ length bytes.now }
+    requires stands { First (standing session table.old []) 0 }
+    ensures { PartFollowed (fact_at facts place bytes.now ∷ []) session table.old (reply_of_read result)
+        table.new }
+{
     let verdict = facts.verdict(bytes);
     if 1 < verdict {
-        return Err(refused(Refusal::BadVerdict));
+        return Err(RefusedBook {
+            why: Refusal::BadVerdict,
+            place,
+            session,
+        });
     }
     let (lower, upper) = (bytes[0] as usize, bytes[1] as usize);
-    take_fact(session, table, lower, upper, verdict == 1, facts.kind()).map_err(refused)
+    let taken = take_fact(session, table, lower, upper, verdict == 1, facts.kind());
+    placed(taken, place, session)
 }

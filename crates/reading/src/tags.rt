@@ -54,6 +54,7 @@ pub enum Contents {
 
 impl Contents {
     // What a field with a tag contains, if it is a tag at all.
+    #[tactic(auto, unfolding(promise::specs::Book::row_of))]
     pub fn tagged(tag: u8) -> Option<Contents>
         ensures { row_of tag ≡ row_for tag result }
     {
