@@ -57,7 +57,6 @@ pub record FactsLeft
   pub whole : 3 + size ≡ at + count * width_of facts
   pub within : 3 + size ≤ length bytes
   pub stands : First (standing s t []) 0
-  pub kept : length t ≡ length t₀
   pub all : (r : Reply) (t' : List ℕ) → Follows (rest_of facts place bytes at count) s t r t'
       → Follows (facts_at facts size (place + 3) (drop 3 bytes)) s₀ t₀ r t'
 
@@ -70,7 +69,6 @@ facts_left {facts} {size = size} whole within stands =
       whole = omega (arith, div-add-mod' size (width_of facts));
       within = within;
       stands = stands;
-      kept = refl;
       all = λ r t' f. f;
     }
 
@@ -114,9 +112,9 @@ module _
             }
 
         pub facts_next :
-            (next : ℕ) → next ≡ at + width_of facts → r.number ≡ 0 → length t₁ ≡ length t
+            (next : ℕ) → next ≡ at + width_of facts → r.number ≡ 0
             → FactsLeft facts place bytes size s₀ t₀ next r.session t₁
-        facts_next next e z same =
+        facts_next next e z =
             let left = one_left l in
             let w = rw left.1 at h.whole in
             rw e
@@ -125,7 +123,6 @@ module _
               whole = omega (arith, suc-mul left.0 (width_of facts));
               within = h.within;
               stands = part.stands z;
-              kept = same ∙ h.kept;
               all = λ q t' f. from_here
                   (follows_on facts_behind r q t₁ t' z (fact_at facts (place + at) (drop at bytes) ∷ []) s t
                   part.follows f);
@@ -151,7 +148,6 @@ module _
 -- the book from index at on may be read, and following its items follows all
 pub record FieldsLeft (book t₀ : List ℕ) (at : ℕ) (stage : Stage) (s : Session) (t : List ℕ) : Type 0 where
   pub within : at ≤ length book
-  pub kept : length t ≡ length t₀
   pub stands : stage ≡ Begun → First (standing s t []) 0
   pub all : (r : Reply) (t' : List ℕ) → Follows (items_at book stage at) s t r t'
       → Follows (items_of book) no_session t₀ r t'
@@ -160,7 +156,6 @@ pub fields_left : (book t : List ℕ) → length book ≢ 0 → FieldsLeft book 
 fields_left book t some =
     record {
       within = omega arith;
-      kept = refl;
       stands = λ e. absurd (false≢true (ap once_begun e));
       all = λ r t' f. subst (λ (items : List Item). Follows items no_session t r t') (sym (items_start book some)) f;
     }
@@ -205,17 +200,16 @@ module _ {book t₀ : List ℕ} {at : ℕ} {stage : Stage} {s : Session} {t : Li
             go (k, first, inr (e, _)) = subst (First (field_refusals stage (drop at book))) e first
 
         -- where the next field stands
-        pub next_within : r.number ≡ 0 → at + size_of (drop at book) ≤ length book
+        next_within : r.number ≡ 0 → at + size_of (drop at book) ≤ length book
         next_within z = ends_within book at stage (right_here z)
 
         pub fields_next :
-            (next : ℕ) → next ≡ at + size_of (drop at book) → r.number ≡ 0 → length t₁ ≡ length t
+            (next : ℕ) → next ≡ at + size_of (drop at book) → r.number ≡ 0
             → FieldsLeft book t₀ next Begun r.session t₁
-        fields_next next e z same =
+        fields_next next e z =
             rw e
             (record {
               within = next_within z;
-              kept = same ∙ h.kept;
               stands = λ _. part.stands z;
               all = λ q t' f.
                   whole q t'

@@ -14,16 +14,16 @@ use promise::{Refusal, RefusedBook, Session, Stage};
 pub fn read(book: &[u8], table: &mut [u8]) -> Result<Session, RefusedBook>
     ensures { BookRead book.now table.old (reply_of_read result) table.new }
 {
-    let mut session = NO_SESSION;
     if book.is_empty() {
         return Err(RefusedBook {
             why: Refusal::MisplacedTag,
             place: 0,
-            session: session,
+            session: NO_SESSION,
         });
     }
+    let mut session = NO_SESSION;
     let mut stage = Stage::Start;
-    let mut at: usize = 0;
+    let mut at = 0;
     while at < book.len() {
         let field = Field {
             place: at,

@@ -19,7 +19,7 @@ returns-in_err-session c =
 pub loop-at-preserved : goal.loop-at-preserved
 loop-at-preserved c =
     fields_next c.loop-at.invariant c.loop-at-test.true (rw take_rest at c.in_ok-session.ensures) _
-    (let e = rw take_rest at c.length.ensures.0 in omega arith) refl c.read.auto.table
+    (let e = rw take_rest at c.length.ensures.0 in omega arith) refl
 
 pub returns : goal.returns
 returns c = book_read c.loop-at.invariant c.loop-at-test.false

@@ -26,7 +26,7 @@ pub loop-at-preserved : goal.loop-at-preserved
 loop-at-preserved c =
     let p = rw take_rest at c.in_ok-session.ensures in
     record {
-      left = facts_next c.loop-at.invariant.left (omega arith) p _ (omega (arith, c.width-at-step.ensures)) refl c.fact.auto.table;
+      left = facts_next c.loop-at.invariant.left (omega arith) p _ (omega (arith, c.width-at-step.ensures)) refl;
       end = c.loop-at.invariant.end;
       step = c.loop-at.invariant.step;
     }
@@ -37,4 +37,4 @@ returns c = all_followed c.loop-at.invariant.left (omega (arith, c.loop-at.invar
 pub returns-in_ok-session : goal.returns-in_ok-session
 returns-in_ok-session c =
     let p = rw take_rest at c.in_ok-session.ensures in
-    all_followed (facts_next c.loop-at.invariant.left (omega arith) p (c.loop-at.at + c.width-at-step.result) (omega (arith, c.width-at-step.ensures)) refl c.fact.auto.table) (omega arith)
+    all_followed (facts_next c.loop-at.invariant.left (omega arith) p (c.loop-at.at + c.width-at-step.result) (omega (arith, c.width-at-step.ensures)) refl) (omega arith)
