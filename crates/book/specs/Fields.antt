@@ -10,6 +10,15 @@ use Rattle.buffers.specs.Placed.{Put}
 use Rattle.buffers.specs.Noted.{Noted}
 use Rattle.marks.specs.Shape.{Shape}
 use Rattle.standing.specs.Left.{left}
+use Rattle.promise.specs.declared.Tag.{Tag}
+use Rattle.promise.specs.declared.Tag.TheVariants.{ClassCount, YesFacts, NoFacts, Answers}
+
+-- the byte that each tag is
+abbrev pub tag_byte : Tag → ℕ
+tag_byte ClassCount = 1
+tag_byte YesFacts = 2
+tag_byte NoFacts = 3
+tag_byte Answers = 4
 
 -- the pairs off the diagonal that are marked m were counted, and written if there is room for all of them
 abbrev pub PairsNoted : ℕ → List ℕ → ℕ → List ℕ → ℕ → List ℕ → Type 0

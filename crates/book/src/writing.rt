@@ -4,7 +4,7 @@ ghost use Rattle.promise.specs.Calls.{Owed, count_of};
 ghost use Rattle.promise.specs.Book.{write};
 ghost use Rattle.buffers.specs.Placed.{Put};
 ghost use Rattle.marks.specs.Bytes.{byte_of};
-ghost use Rattle.book.specs.Fields.{PairsNoted, FieldFits, FieldPut, BookFits, BookPut, write_left};
+ghost use Rattle.book.specs.Fields.{PairsNoted, FieldFits, FieldPut, BookFits, BookPut, tag_byte, write_left};
 
 use buffers::{put_byte, put_pair};
 use marks::{Mark, Marks};
@@ -31,7 +31,7 @@ fn list_marked(marks: &Marks<'_>, wanted: Mark, out: &mut [u8]) -> usize
 // behind them.
 fn write_head(out: &mut [u8], at: usize, tag: Tag, size: usize) -> usize
     requires { (at + 3 ≤ length out.old) × (size < 65536) }
-    ensures { Put (tag ∷ size / 256 ∷ size % 256 ∷ []) at out.old result out.new }
+    ensures { Put (tag_byte tag ∷ size / 256 ∷ size % 256 ∷ []) at out.old result out.new }
 {
     let high = put_byte(&mut *out, at, tag as u8);
     let low = put_byte(&mut *out, high, (size / 256) as u8);
@@ -40,8 +40,8 @@ fn write_head(out: &mut [u8], at: usize, tag: Tag, size: usize) -> usize
 
 // The field with the pairs off the diagonal that have a mark, from index at on. Gives the index behind it.
 fn write_field(marks: &Marks<'_>, tag: Tag, wanted: Mark, out: &mut [u8], at: usize) -> usize
-    requires { FieldFits marks.now.classes marks.now.bytes.now tag (byte_of wanted) out.old at }
-    ensures { FieldPut marks.now.classes marks.now.bytes.now tag (byte_of wanted) out.old at result out.new }
+    requires { FieldFits marks.now.classes marks.now.bytes.now (tag_byte tag) (byte_of wanted) out.old at }
+    ensures { FieldPut marks.now.classes marks.now.bytes.now (tag_byte tag) (byte_of wanted) out.old at result out.new }
 {
     let start = at + 3;
     let count = list_marked(marks, wanted, &mut out[start..]);
