@@ -6,7 +6,7 @@ ghost use Rattle.buffers.specs.Placed.{Put};
 ghost use Rattle.marks.specs.Bytes.{byte_of};
 ghost use Rattle.book.specs.Fields.{PairsNoted, FieldFits, FieldPut, BookFits, BookPut, tag_byte, write_left};
 
-use buffers::{put_byte, put_pair};
+use buffers::{put_byte, put_bytes, put_pair};
 use marks::{Mark, Marks};
 use promise::{Refusal, Session, Tag};
 
@@ -19,7 +19,7 @@ fn list_marked(marks: &Marks<'_>, wanted: Mark, out: &mut [u8]) -> usize
     for a in 0..marks.classes {
         for b in 0..marks.classes {
             if a != b && marks.is(a, b, wanted) {
-                put_pair(&mut *out, 2 * count, a, b);
+                put_pair(out, 2 * count, a, b);
                 count += 1;
             }
         }
@@ -33,14 +33,13 @@ fn write_head(out: &mut [u8], at: usize, tag: Tag, size: usize) -> usize
     requires { (at + 3 ≤ length out.old) × (size < 65536) }
     ensures { Put (tag_byte tag ∷ size / 256 ∷ size % 256 ∷ []) at out.old result out.new }
 {
-    let high = put_byte(&mut *out, at, tag as u8);
-    let low = put_byte(&mut *out, high, (size / 256) as u8);
-    put_byte(out, low, (size % 256) as u8)
+    let [high, low] = (size as u16).to_be_bytes();
+    put_bytes(out, at, &[tag as u8, high, low])
 }
 
 // The field with the pairs off the diagonal that have a mark, from index at on. Gives the index behind it.
 fn write_field(marks: &Marks<'_>, tag: Tag, wanted: Mark, out: &mut [u8], at: usize) -> usize
-    requires { FieldFits marks.now.classes marks.now.bytes.now (tag_byte tag) (byte_of wanted) out.old at }
+    requires { FieldFits marks.now.classes marks.now.bytes.now (byte_of wanted) out.old at }
     ensures { FieldPut marks.now.classes marks.now.bytes.now (tag_byte tag) (byte_of wanted) out.old at result out.new }
 {
     let start = at + 3;
@@ -55,14 +54,14 @@ fn write_fields(marks: &Marks<'_>, out: &mut [u8]) -> usize
     requires { BookFits marks.now.classes marks.now.bytes.now out.old }
     ensures { BookPut marks.now.classes marks.now.bytes.now out.old result out.new }
 {
-    let contents = write_head(&mut *out, 0, Tag::ClassCount, 1);
-    let facts = put_byte(&mut *out, contents, marks.classes as u8);
-    let behind = write_field(marks, Tag::YesFacts, Mark::Yes, &mut *out, facts);
+    let contents = write_head(out, 0, Tag::ClassCount, 1);
+    let facts = put_byte(out, contents, marks.classes as u8);
+    let behind = write_field(marks, Tag::YesFacts, Mark::Yes, out, facts);
     write_field(marks, Tag::NoFacts, Mark::No, out, behind)
 }
 
 // The book of a table, where only 8 may still be due. Its pairs are counted before any byte is written, over an empty
-// part of the buffer.
+// buffer.
 fn write_book(marks: &Marks<'_>, out: &mut [u8]) -> Result<usize, Refusal>
     ensures { Owed (write_left marks.now.classes marks.now.bytes.now out.old) (count_of result, out.new) }
 {

@@ -4,6 +4,8 @@ use mathlib.Core.Path.{◌≡◌, ◌∙◌, ap, ap₂}
 use mathlib.Core.List.{List, [], ◌++◌, append-nil}
 use Prim.Native.Nat.{ℕ, ◌-◌, ◌≤◌}
 use native.Mathlib.Omega.{arith}
+use Rattle.std.proofs.Common.{rules}
+use Rattle.std.proofs.lemmas.List.{same_lists, places}
 use lib.ListN.{length, take, drop, length-append, length-drop, drop_of_length-le}
 use lib.Seq.{length-take-le, take_all}
 use Rattle.buffers.specs.Placed.{place, Placed}
@@ -17,32 +19,15 @@ module _ (start : ℕ) (out : List ℕ) where
   abbrev pub replaced : List ℕ → List ℕ
   replaced u = take start out ++ (u ++ drop (length out - start) (drop start out))
 
-  part_whole : part ≡ drop start out
-  part_whole = take_all (length out - start) (drop start out) (omega (arith, length-drop start out))
-
   pub part_length : length part ≡ length out - start
-  part_length = ap (λ (u : List ℕ). length u) part_whole ∙ length-drop start out
-
-  none_left : drop (length out - start) (drop start out) ≡ []
-  none_left = drop_of_length-le (drop start out) {i = length out - start} (omega (arith, length-drop start out))
+  part_length = search (rules, places)
 
   pub replaced_length : (u : List ℕ) → start ≤ length out → length u ≡ length part → length (replaced u) ≡ length out
-  replaced_length u room e =
-      omega (
-        arith,
-        part_length,
-        length-append (take start out) (u ++ drop (length out - start) (drop start out)),
-        length-append u (drop (length out - start) (drop start out)),
-        ap (λ (v : List ℕ). length v) none_left,
-        length-take-le start out room,
-      )
+  replaced_length u room e = search (rules, places)
 
   -- what stands at the front of the part stands from start on
   pub part_placed : {w u : List ℕ} → Placed w 0 part u → Placed w start out (replaced u)
   part_placed {w} {u} h =
       record {
-        bytes =
-            ap₂ (λ (x y : List ℕ). take start out ++ (x ++ y))
-            (h.bytes ∙ ap (λ (x : List ℕ). place w 0 x) part_whole) none_left
-            ∙ ap (λ (x : List ℕ). take start out ++ x) (append-nil (place w 0 (drop start out)));
+        bytes = rw h.bytes (same_lists _ _ (search (rules, places)) (λ k d l. grind (arith, places)));
       }

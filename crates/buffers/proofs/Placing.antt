@@ -6,43 +6,35 @@ use Prim.Native.Nat.{ℕ, zero, suc, ◌+◌, ◌-◌, ◌≤◌, ◌<◌}
 use native.Mathlib.Omega.{arith}
 use lib.ListN.{length, set, length-append, take-append-drop}
 use Rattle.promise.proofs.Counts.{over_fits}
+use Rattle.std.proofs.Common.{rules, add-one}
+use Rattle.std.proofs.lemmas.List.{same_lists, places, set_split, drop-drop}
 use Rattle.buffers.specs.Placed.{place, Placed, Put}
 
 place_one : (x at : ℕ) (out : List ℕ) → at < length out → set out at x ≡ place (x ∷ []) at out
-place_one x at [] h = absurd (omega arith)
-place_one x zero (o ∷ out) h = refl
-place_one x (suc at) (o ∷ out) h = ap (λ (u : List ℕ). o ∷ u) (place_one x at out (omega arith))
+place_one x at out h = rw (set_split, drop-drop, add-one)
 
 place_length : (w : List ℕ) (at : ℕ) (out : List ℕ) → at + length w ≤ length out → length (place w at out) ≡ length out
-place_length w zero out h = over_fits w out (omega arith)
-place_length w (suc at) [] h = absurd (omega arith)
-place_length w (suc at) (o ∷ out) h = ap suc (place_length w at out (omega arith))
+place_length w at out h = search (rules, places)
 
 -- bytes placed right behind others make one run with them, whichever of the two are placed first
-place_both :
+place_behind :
     (w x : List ℕ) (at j : ℕ) (out : List ℕ) → j ≡ at + length w → j ≤ length out
-    → (place x j (place w at out) ≡ place (w ++ x) at out) × (place w at (place x j out) ≡ place (w ++ x) at out)
-place_both [] x zero zero out e h = (refl, refl)
-place_both [] x zero (suc j) out e h = absurd (omega arith)
-place_both (y ∷ w) x zero zero out e h = absurd (omega arith)
-place_both (y ∷ w) x zero (suc j) [] e h = absurd (omega arith)
-place_both (y ∷ w) x zero (suc j) (o ∷ out) e h =
-    let p = place_both w x zero j out (omega arith) (omega arith) in
-    (ap (λ (u : List ℕ). y ∷ u) p.0, ap (λ (u : List ℕ). y ∷ u) p.1)
-place_both w x (suc at) zero out e h = absurd (omega arith)
-place_both w x (suc at) (suc j) [] e h = absurd (omega arith)
-place_both w x (suc at) (suc j) (o ∷ out) e h =
-    let p = place_both w x at j out (omega arith) (omega arith) in
-    (ap (λ (u : List ℕ). o ∷ u) p.0, ap (λ (u : List ℕ). o ∷ u) p.1)
+    → place x j (place w at out) ≡ place (w ++ x) at out
+place_behind w x at j out e h = same_lists _ _ (search (rules, places)) (λ k d l. grind (arith, places))
+
+place_before :
+    (w x : List ℕ) (at j : ℕ) (out : List ℕ) → j ≡ at + length w → j ≤ length out
+    → place w at (place x j out) ≡ place (w ++ x) at out
+place_before w x at j out e h = same_lists _ _ (search (rules, places)) (λ k d l. grind (arith, places))
 
 module _
     {w x : List ℕ} {at j : ℕ} {out out₁ out₂ : List ℕ} (next : j ≡ at + length w) (room : j ≤ length out)
   where
     pub placed_behind : Placed w at out out₁ → Placed x j out₁ out₂ → Placed (w ++ x) at out out₂
-    placed_behind p q = record { bytes = rw (q.bytes, p.bytes) (place_both w x at j out next room).0 }
+    placed_behind p q = record { bytes = rw (q.bytes, p.bytes) (place_behind w x at j out next room) }
 
     pub placed_before : Placed x j out out₁ → Placed w at out₁ out₂ → Placed (w ++ x) at out out₂
-    placed_before p q = record { bytes = rw (q.bytes, p.bytes) (place_both w x at j out next room).1 }
+    placed_before p q = record { bytes = rw (q.bytes, p.bytes) (place_before w x at j out next room) }
 
 -- nothing was put
 pub put_none : {at : ℕ} {out : List ℕ} → at ≤ length out → Put [] at out at out

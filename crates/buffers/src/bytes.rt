@@ -1,6 +1,6 @@
 // Bytes as they are.
-ghost use Rattle.std.specs.Prelude.{[], ◌∷◌, ◌<◌, ◌≤◌, length, take};
-ghost use Rattle.buffers.specs.Placed.{Placed, Put};
+ghost use Rattle.std.specs.Prelude.{[], ◌∷◌, ◌<◌, ◌+◌, ◌≤◌, length};
+ghost use Rattle.buffers.specs.Placed.{Put};
 ghost use Rattle.buffers.specs.Noted.{PairPut};
 
 // One byte. Gives the index behind it.
@@ -13,20 +13,22 @@ pub fn put_byte(out: &mut [u8], at: usize, byte: u8) -> usize
     at + 1
 }
 
+// A run of bytes. Gives the index behind it.
+pub fn put_bytes(out: &mut [u8], at: usize, bytes: &[u8]) -> usize
+    requires { at + length bytes.now ≤ length out.old }
+    ensures { Put bytes.now at out.old result out.new }
+{
+    let behind = at + bytes.len();
+    out[at..behind].copy_from_slice(bytes);
+    behind
+}
+
 // A pair of classes, if there is room for it. Twice the number of pairs of 128 classes bounds the index.
 pub fn put_pair(out: &mut [u8], at: usize, a: usize, b: usize)
     requires { (at ≤ 32768) × (a < 256) × (b < 256) }
     ensures { PairPut at a b out.old out.new }
 {
     if at + 2 <= out.len() {
-        out[at..at + 2].copy_from_slice(&[a as u8, b as u8]);
+        put_bytes(out, at, &[a as u8, b as u8]);
     }
-}
-
-// The first n bytes of one buffer, at the front of another.
-pub fn copy_front(n: usize, from: &[u8], out: &mut [u8])
-    requires { (n ≤ length from.now) × (n ≤ length out.old) }
-    ensures { Placed (take n from.now) 0 out.old out.new }
-{
-    out[..n].copy_from_slice(&from[..n]);
 }

@@ -6,6 +6,6 @@ mod bytes;
 mod input;
 mod numbers;
 
-pub use bytes::{copy_front, put_byte, put_pair};
+pub use bytes::{put_byte, put_bytes, put_pair};
 pub use input::fill;
 pub use numbers::put_number;
