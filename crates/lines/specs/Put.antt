@@ -8,7 +8,7 @@ use Rattle.promise.specs.declared.Reply.{Reply}
 use Rattle.promise.specs.Next.{FirstOpen}
 use Rattle.promise.specs.Hierarchy.{HeadsOf, StepsOf}
 use Rattle.buffers.specs.Placed.{Put}
-use Rattle.lines.specs.Lines.{question_line, class_lines, step_lines, Says}
+use Rattle.lines.specs.Lines.{line, question_line, class_lines, step_lines, Says}
 
 -- k lines w were put, of at most 10 bytes each
 pub record LinesPut (k : ℕ) (w : List ℕ) (at : ℕ) (text : List ℕ) (behind : ℕ) (text' : List ℕ) : Type 0 where
@@ -19,6 +19,11 @@ pub record LinesPut (k : ℕ) (w : List ℕ) (at : ℕ) (text : List ℕ) (behin
 abbrev pub pairs_in : ℕ → List ℕ → List Pair
 pairs_in zero bytes = []
 pairs_in (suc k) bytes = pairs_in k bytes ++ (get_or bytes (2 * k) 0, get_or bytes (2 * k + 1) 0) ∷ []
+
+-- a line for each pair, behind its letter
+abbrev pub lines : ℕ → List Pair → List ℕ
+lines letter [] = []
+lines letter (p ∷ pairs) = line letter p.0 p.1 ++ lines letter pairs
 
 -- the next question was put
 pub record QuestionPut (n : ℕ) (t : List ℕ) (at : ℕ) (text : List ℕ) (behind : ℕ) (text' : List ℕ) : Type 0 where

@@ -6,14 +6,15 @@ mod text;
 
 ghost use Rattle.std.specs.Prelude.{◌≡◌, [], ◌+◌, ◌<◌, ◌≤◌, length};
 ghost use Rattle.promise.specs.Refusals.{First, standing, too_long};
+ghost use Rattle.promise.specs.Book.{reply_of_read};
 ghost use Rattle.order.specs.Tables.{opens};
 ghost use Rattle.buffers.specs.Placed.{Put};
 ghost use Rattle.lines.specs.Lines.{refusal_line};
 ghost use Rattle.lines.specs.Put.{QuestionPut, SettledPut, Settled, Reportable, Reported};
 
 use dawnhangra::{hierarchy, next, open_pairs};
-use listing::{put_classes, put_steps};
-use promise::{Counted, Question, Reply, Session, TOO_LONG};
+use listing::put_lines;
+use promise::{Refusal, RefusedBook, Session};
 use text::{put_counts, put_line};
 
 // The most bytes that the printing program reads.
@@ -24,7 +25,7 @@ pub fn report_too_long(text: &mut [u8]) -> usize
     requires { 14 ≤ length text.old }
     ensures { Put (refusal_line (too_long 0).number 32768) 0 text.old result text.new }
 {
-    put_line(text, 0, b'R', TOO_LONG as usize, MOST_INPUT)
+    put_line(text, 0, b'R', Refusal::TooLong as usize, MOST_INPUT)
 }
 
 // How many pairs are open, where none of the refusals 1 to 4 is due.
@@ -32,14 +33,7 @@ fn opened(session: Session, table: &[u8]) -> usize
     requires { First (standing session table.now []) 0 }
     ensures { result ≡ opens session.classes table.now }
 {
-    let counted = open_pairs(session, table);
-    match counted {
-        Counted::Count(pairs) => pairs,
-        Counted::Refused {
-            number: _,
-            place: _,
-        } => 0,
-    }
+    open_pairs(session, table).unwrap()
 }
 
 // The next question, where a pair is open.
@@ -48,15 +42,8 @@ fn put_question(session: Session, table: &[u8], text: &mut [u8], at: usize) -> u
         × (at + 10 ≤ length text.old) }
     ensures { QuestionPut session.classes table.now at text.old result text.new }
 {
-    let question = next(session, table);
-    match question {
-        Question::Ask { lower, upper } => put_line(text, at, b'Q', lower, upper),
-        Question::Done => at,
-        Question::Refused {
-            number: _,
-            place: _,
-        } => at,
-    }
+    let asked = next(session, table).unwrap().unwrap();
+    put_line(text, at, b'Q', asked.lower, asked.upper)
 }
 
 // The classes with their heads and the direct steps, where no pair is open.
@@ -71,39 +58,38 @@ fn put_settled(
     requires { Settled session table.now heads.old steps.old text.old at }
     ensures { SettledPut session.classes table.now at text.old result text.new }
 {
-    let counted = hierarchy(session, table, &mut *heads, &mut *steps);
-    match counted {
-        Counted::Count(count) => {
-            let behind = put_classes(session.classes, &*heads, &mut *text, at);
-            put_steps(count, &*steps, text, behind)
-        }
-        Counted::Refused {
-            number: _,
-            place: _,
-        } => at,
-    }
+    let count = hierarchy(session, table, &mut *heads, &mut *steps).unwrap();
+    let of_classes = (0..session.classes as u8).zip(heads.iter().copied());
+    let behind = put_lines(b'C', of_classes, &mut *text, at);
+    let (pairs, _) = steps.as_chunks::<2>();
+    let of_steps = pairs
+        .iter()
+        .take(count)
+        .map(|[lower, upper]| (*lower, *upper));
+    put_lines(b'E', of_steps, text, behind)
 }
 
-// What the printing program writes of a book that was read, with the reply and the table that reading gave. Gives the
-// number of bytes. The buffers for heads and steps are used on the way.
+// What the printing program writes of a book that was read, and of the table that reading gave. Gives the number of
+// bytes. The buffers for heads and steps are used on the way.
 pub fn report(
-    reply: Reply,
+    read: Result<Session, RefusedBook>,
     table: &[u8],
     heads: &mut [u8],
     steps: &mut [u8],
     text: &mut [u8],
 ) -> usize
-    requires { Reportable reply table.now heads.old steps.old text.old }
-    ensures { Reported reply table.now text.old result text.new }
+    requires { Reportable (reply_of_read read) table.now heads.old steps.old text.old }
+    ensures { Reported (reply_of_read read) table.now text.old result text.new }
 {
-    if reply.number != 0 {
-        return put_line(text, 0, b'R', reply.number as usize, reply.place);
-    }
-    let session = reply.session;
+    let session = match read {
+        Ok(session) => session,
+        Err(refused) => return put_line(text, 0, b'R', refused.why as usize, refused.place),
+    };
     let pairs = opened(session, table);
     let behind = put_counts(&mut *text, session.classes, session.tests, pairs);
     if pairs == 0 {
-        return put_settled(session, table, heads, steps, text, behind);
+        put_settled(session, table, heads, steps, text, behind)
+    } else {
+        put_question(session, table, text, behind)
     }
-    put_question(session, table, text, behind)
 }

@@ -1,34 +1,35 @@
-// The lines of a settled table.
-ghost use Rattle.std.specs.Prelude.{◌+◌, ◌*◌, ◌≤◌, length, take};
-ghost use Rattle.lines.specs.Lines.{class_lines, step_lines};
-ghost use Rattle.lines.specs.Put.{LinesPut, pairs_in};
+// Lines of one kind, one behind the other.
+ghost use Rattle.std.specs.Prelude.{◌+◌, ◌*◌, ◌≤◌, List, length};
+ghost use Rattle.std.specs.Iterator.{Drains, IsFinite, size};
+ghost use Rattle.order.specs.Tables.{Pair};
+ghost use Rattle.buffers.specs.Placed.{Put};
+ghost use Rattle.lines.specs.Put.{lines};
 
 use crate::text::put_line;
 
-// A line for each class, with its head.
-pub fn put_classes(n: usize, heads: &[u8], text: &mut [u8], at: usize) -> usize
-    requires { (n ≤ 256) × (n ≤ length heads.now) × (at + 10 * n ≤ length text.old) }
-    ensures { LinesPut n (class_lines 0 (take n heads.now)) at text.old result
-        text.new }
+// A line for each pair of bytes that comes, behind its letter.
+pub fn put_lines<I: Iterator<Item = (u8, u8)>>(
+    letter: u8,
+    pairs: I,
+    text: &mut [u8],
+    at: usize,
+) -> usize
+    requires can { I.can_next pairs }
+    requires finite { IsFinite (I.remaining pairs) }
+    requires room { at + 10 * size (I.remaining pairs) ≤ length text.old }
+    ensures put { (come : List Pair) × Drains I.next_gives pairs come
+        × Put (lines letter come) at text.old result text.new }
+    ensures short { result ≤ at + 10 * size (I.remaining pairs) }
 {
     let mut behind = at;
-    for i in 0..n {
-        behind = put_line(&mut *text, behind, b'C', i, heads[i] as usize);
-    }
-    behind
-}
-
-// A line for each direct step.
-pub fn put_steps(count: usize, steps: &[u8], text: &mut [u8], at: usize) -> usize
-    requires { (2 * count ≤ length steps.now) × (at + 10 * count ≤ length text.old) }
-    ensures { LinesPut count (step_lines (pairs_in count steps.now)) at text.old result
-        text.new }
-{
-    let mut behind = at;
-    for i in 0..count {
-        let lower = steps[2 * i] as usize;
-        let upper = steps[2 * i + 1] as usize;
-        behind = put_line(&mut *text, behind, b'E', lower, upper);
+    for (first, second) in pairs {
+        behind = put_line(
+            &mut *text,
+            behind,
+            letter,
+            usize::from(first),
+            usize::from(second),
+        );
     }
     behind
 }

@@ -1,35 +1,37 @@
 -- `lines::put_settled` meets its contract: hierarchy refuses nothing, and what it wrote is listed.
 -- Assumes nothing.
-use native.Mathlib.Omega.{arith}
-use Rattle.lines.proofs.Saying.{classes_few, never_refused_here, steps_counted, settled_put}
+use Rattle.std.proofs.Common.{◌≡◌, ℕ, ◌≤◌, length, refl, sym, ◌∙◌, rules, arith, tests}
+use Rattle.std.proofs.lemmas.Iterator.{YieldsList-from_slice, YieldsList-from_range, YieldsList-from_zip, YieldsList-from_map, YieldsList-from_take}
+use Rattle.std.proofs.lemmas.Iterator.Consumers.{YieldsList-from_copied, YieldsList-at, YieldsList-end}
+use Rattle.lines.proofs.LineByLine.{pair_of, drained}
+use Rattle.lines.proofs.Saying.{given, settled_put}
 use Rattle.lines.proofs.put_settled.Goals as goal
 
-pub put_classes-behind-requires : goal.put_classes-behind-requires
-put_classes-behind-requires c = (
-  omega (arith, classes_few c.requires),
-  omega (arith, classes_few c.requires, c.requires.heads_room, c.hierarchy-counted.auto.heads),
-  omega (arith, classes_few c.requires, c.requires.text_room),
-)
+pub unwrap-count-requires : goal.unwrap-count-requires
+unwrap-count-requires c = rw (given c.hierarchy.result c.requires c.hierarchy.ensures).counted refl
 
-pub put_steps-requires : goal.put_steps-requires
-put_steps-requires c =
-    let count = steps_counted c.requires c.hierarchy-counted.ensures c.in-Count.is in (
-      omega (arith, count, c.requires.steps_room, c.hierarchy-counted.auto.steps),
-      omega (
-        arith,
-        count,
-        c.requires.text_room,
-        classes_few c.requires,
-        c.put_classes-behind.ensures.short,
-        c.put_classes-behind.auto.text,
-      ),
-    )
+pub put_lines-requires-clause-room : goal.put_lines-requires-clause-room
+put_lines-requires-clause-room c =
+    let g = given c.hierarchy.result c.requires c.hierarchy.ensures in
+    let counted : c.map-of_steps.result.iter.n ≡ length g.l = cc in
+    omega arith
 
-pub returns-in-Count : goal.returns-in-Count
-returns-in-Count c =
-    settled_put c.requires c.hierarchy-counted.ensures c.in-Count.is c.put_classes-behind.ensures
-    c.put_steps.ensures
-
-pub returns-in-Refused : goal.returns-in-Refused
-returns-in-Refused c =
-    absurd (never_refused_here c.requires c.hierarchy-counted.ensures c.in-Refused.is)
+pub returns : goal.returns
+returns c =
+    let g = given c.hierarchy.result c.requires c.hierarchy.ensures in
+    let counted : c.unwrap-count.result ≡ length g.l = cc in
+    let n = c.args.session.classes in
+    let zip = c.zip-of_classes.ensures in
+    let classes =
+    drained _ c.put_lines-behind.ensures.put.1
+    (YieldsList-from_zip (YieldsList-at zip.first (YieldsList-from_range 0 n n refl (omega arith)))
+        (YieldsList-at zip.second (YieldsList-from_copied (YieldsList-at c.copied.ensures.source (YieldsList-from_slice c.hierarchy.new.heads cc)))))
+    in
+    let steps =
+    drained _ c.put_lines.ensures.put.1
+    (YieldsList-from_map _ pair_of
+        (YieldsList-at c.map-of_steps.ensures.source
+        (YieldsList-from_take (length g.l) (YieldsList-at c.take.ensures.source (YieldsList-from_slice _ cc)) (c.take.ensures.count ∙ counted)))
+        c.map-of_steps.ensures.closure (λ x r q k. search (rules, tests)))
+    in
+    settled_put g (omega arith) classes steps c.put_lines-behind.ensures.put.2 c.put_lines.ensures.put.2
