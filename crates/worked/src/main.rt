@@ -3,33 +3,21 @@
 // documents' rules. It is not taken from this program.
 #![tactic(auto)]
 
-mod calls;
-mod script;
+mod numbers;
+mod runner;
 mod shown;
 
-ghost use Rattle.std.specs.Prelude.{◌≤◌, length, IfOk};
-
+use buffers::fill;
+use runner::Runner;
 use std::io;
-use std::io::Read;
 
-// Reads until the buffer is full or the input ends, and gives how many bytes came.
-fn fill<R: Read>(reader: &mut R, input: &mut [u8]) -> io::Result<usize>
-    ensures { IfOk result (λ count. count ≤ length input.new) }
-{
-    let mut count: usize = 0;
-    while count < input.len() {
-        let got = reader.read(&mut input[count..])?;
-        if got == 0 {
-            return Ok(count);
-        }
-        count += got;
-    }
-    Ok(count)
-}
-
+// Follows each line of the script on standard input. The last one may lack its end.
 fn main(rt: HostRuntime) -> io::Result<()> {
-    let mut input = [0u8; 4096];
-    let got = fill(&mut rt.stdin(), &mut input)?;
-    let mut table = [7u8; 16384];
-    script::run(&rt, &input[..got], &mut table)
+    let mut script = [0; 4096];
+    let count = fill(&mut rt.stdin(), &mut script)?;
+    let mut runner = Runner::new();
+    for line in script[..count].split_inclusive(|byte| *byte == b'\n') {
+        runner.follow(&rt, line.strip_suffix(b"\n").unwrap_or(line))?;
+    }
+    Ok(())
 }
