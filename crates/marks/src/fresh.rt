@@ -13,6 +13,7 @@ pub fn index(n: usize, a: usize, b: usize) -> usize
 }
 
 // Yes on the diagonal, open elsewhere.
+#[tactic(auto, unfolding(order::specs::Tables::mark))]
 pub fn fresh_marks(n: usize, table: &mut [u8])
     requires { Shape n table.old }
     ensures { MadeFresh n table.old table.new }
