@@ -1,4 +1,3 @@
 pub mod FromFn
-pub mod Pass
 pub mod Passes
 pub mod Rows

@@ -2,7 +2,7 @@
 -- Assumes nothing.
 use mathlib.Core.Path.{◌≡◌, sym, ◌∙◌}
 use mathlib.Core.Logic.Iff
-use mathlib.Core.Logic.{inl, inr}
+use mathlib.Core.Logic.{◌↔◌, inl, inr, ⊎_elim}
 use mathlib.Core.Bool.{Bool}
 use mathlib.Core.List.{List}
 use Prim.Native.Nat.{ℕ, ◌<◌}
@@ -18,7 +18,6 @@ use Rattle.order.proofs.Steps.{yes_after_no_form, no_after_no_form, yes_step, no
 use Rattle.promise.specs.Clips.{Flagged}
 use Rattle.passes.specs.Spread.{FlagsOf, Becomes, Spread}
 use Rattle.passes.specs.Taken.{OpenPair, FactTaken}
-use Rattle.passes.proofs.Pass.{spread_same}
 
 -- no pair is both yes and no after a fact on an open pair
 never_both :
@@ -50,8 +49,11 @@ no_settled never e z =
 -- a pass over flags is one over the classes that they flag
 flagged_pass :
     {n : ℕ} {X Y : ℕ → Type 0} {xs ys : List Bool} {v : ℕ} {t u : List ℕ} → FlagsOf n X xs → FlagsOf n Y ys
-    → Spread n (λ x y. Flagged xs x × Flagged ys y) v t u → Spread n (λ x y. X x × Y y) v t u
-flagged_pass f g s = spread_same s (λ x y hx hy. Iff.and (f.at x hx) (g.at y hy))
+    → Spread n (λ x y. Flagged xs x × Flagged ys y) v t u → (x y : ℕ) → x < n → y < n
+    → Becomes (X x × Y y) v (mark n t x y) (mark n u x y)
+flagged_pass {X = X} {Y} {xs} {ys} f g s x y hx hy =
+    let same : (Flagged xs x × Flagged ys y) ↔ (X x × Y y) = Iff.and (f.at x hx) (g.at y hy) in
+    ⊎_elim (λ w. inl (same.0 w.0, w.1)) (λ w. inr (λ q. w.0 (same.1 q), w.1)) (s.each x y hx hy)
 
 module _ {n : ℕ} {t : List ℕ} {c d : ℕ} (h : OpenPair n t c d) where
   -- the one pass of a no
@@ -63,7 +65,7 @@ module _ {n : ℕ} {t : List ℕ} {c d : ℕ} (h : OpenPair n t c d) where
       record { marks = no_step h.sound h.lower_below h.upper_below settles; rest = s.rest }
     where
       settles : (x y : ℕ) → x < n → y < n → Settles (mark n u x y) (YesAfterNo n t c d x y) (NoAfterNo n t c d x y)
-      settles x y hx hy = go ((flagged_pass above under s).each x y hx hy)
+      settles x y hx hy = go (flagged_pass above under s x y hx hy)
         where
           never : YesAfterNo n t c d x y → NoAfterNo n t c d x y → ⊥
           never p q =
@@ -109,8 +111,8 @@ module _ {n : ℕ} {t : List ℕ} {a b : ℕ} (h : OpenPair n t a b) where
     where
       settles : (x y : ℕ) → x < n → y < n → Settles (mark n w x y) (YesAfterYes n t a b x y) (NoAfterYes n t a b x y)
       settles x y hx hy =
-          go ((flagged_pass under-a above-b s₁).each x y hx hy) ((flagged_pass above-b not-above-a s₂).each x y hx hy)
-          ((flagged_pass not-under-b under-a s₃).each x y hx hy)
+          go (flagged_pass under-a above-b s₁ x y hx hy) (flagged_pass above-b not-above-a s₂ x y hx hy)
+          (flagged_pass not-under-b under-a s₃ x y hx hy)
         where
           go :
               Becomes ((mark n t x a ≡ 1) × (mark n t b y ≡ 1)) 1 (mark n t x y) (mark n u x y)

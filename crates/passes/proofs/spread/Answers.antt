@@ -9,7 +9,6 @@ use Prim.Native.Nat.{ℕ, ◌+◌, ◌<◌}
 use native.Mathlib.Omega.{arith}
 use borrow.Author.Count.{below_more}
 use Rattle.order.proofs.Bytes.{rest_trans}
-use Rattle.marks.proofs.Shape.{shape_kept}
 use Rattle.promise.specs.Clips.{Flagged}
 use Rattle.passes.proofs.Rows.{RowChanged, row_changed}
 use Rattle.passes.proofs.spread.Goals as goal
@@ -44,6 +43,6 @@ loop-x-preserved c =
       | then-xs-x w ↦
           rw w.table-is
           (marked h c.loop-x-test.true w.if-xs-x.true
-          (row_changed (shape_kept c.requires h.rest) c.loop-x-test.true (omega arith) w.mark_row.ensures))
+          (row_changed (omega arith) c.loop-x-test.true (omega arith) w.mark_row.ensures))
       | else-xs-x w ↦ rw w.table-is (passed_over h c.loop-x-test.true (λ f. false≢true (sym w.if-xs-x.false ∙ f)))
     ]
