@@ -2,7 +2,7 @@
 ghost use Rattle.promise.specs.Hierarchy.{NextRung};
 ghost use Rattle.hierarchy.specs.Climb.{BelowGoal, Reached, Climbed};
 
-use steps::{Heads, StepsFrom};
+use steps::Heads;
 
 // The lowest-numbered head directly above the rung and under the goal. There is one, since the rung is not the goal's
 // head.
@@ -10,7 +10,7 @@ fn next_rung(heads: &Heads<'_>, goal: usize, rung: usize) -> usize
     requires { BelowGoal heads.now.marks.classes heads.now.marks.bytes.now goal rung }
     ensures { NextRung heads.now.marks.classes heads.now.marks.bytes.now goal rung result }
 {
-    let steps = StepsFrom::of(heads, rung);
+    let steps = heads.steps_from(rung);
     (0..heads.marks.classes)
         .find(|c| steps.leads_to(*c) && heads.marks.under(*c, goal))
         .unwrap()

@@ -3,7 +3,6 @@ ghost use Rattle.std.specs.Prelude.{◌≤◌};
 ghost use Rattle.steps.specs.HeadsFound.{StepsNoted};
 
 use crate::heads::Heads;
-use crate::thirds::StepsFrom;
 use buffers::put_pair;
 
 impl Heads<'_> {
@@ -19,9 +18,9 @@ impl Heads<'_> {
             if !self.is_head(a) {
                 continue;
             }
-            let from = StepsFrom::of(self, a);
+            let from_a = self.steps_from(a);
             for b in 0..n {
-                if from.leads_to(b) {
+                if from_a.leads_to(b) {
                     put_pair(&mut *steps, 2 * count, a, b);
                     count += 1;
                 }

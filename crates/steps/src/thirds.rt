@@ -1,4 +1,4 @@
-// The direct steps from one head. Third heads stand between it and a class above it.
+// The direct steps from one head, to the classes above it with no third head between.
 ghost use Rattle.std.specs.Prelude.{◌≡◌, ◌↔◌, true, ◌<◌, ◌≤◌, length};
 ghost use Rattle.promise.specs.Hierarchy.{Head, Direct};
 ghost use Rattle.marks.specs.Shape.{RowOf};
@@ -8,7 +8,7 @@ use crate::heads::Heads;
 use marks::{Mark, Marks};
 use promise::MOST_CLASSES;
 
-// A head, and for each class whether a third head stands between it and the class.
+// A head, and for each class whether a third head stands between them.
 #[derive(Clone, Copy)]
 pub struct StepsFrom<'h, 'a> {
     pub heads: &'h Heads<'a>,
@@ -54,20 +54,22 @@ fn find_thirds(heads: &Heads<'_>, a: usize) -> [bool; MOST_CLASSES]
     thirds
 }
 
-impl<'h, 'a> StepsFrom<'h, 'a> {
-    // The third heads above a head are found.
-    pub fn of(heads: &'h Heads<'a>, from: usize) -> Self
-        requires { Head heads.now.marks.classes heads.now.marks.bytes.now from }
-        ensures heads { result.heads.now ≡ heads.now }
+impl<'a> Heads<'a> {
+    // The direct steps from a head, by the third heads above it.
+    pub fn steps_from(&self, from: usize) -> StepsFrom<'_, 'a>
+        requires { Head self.now.marks.classes self.now.marks.bytes.now from }
+        ensures heads { result.heads.now ≡ self.now }
         ensures from { result.from ≡ from }
     {
         StepsFrom {
-            heads,
+            heads: self,
             from,
-            thirds: find_thirds(heads, from),
+            thirds: find_thirds(self, from),
         }
     }
+}
 
+impl StepsFrom<'_, '_> {
     // Whether there is a direct step to b.
     pub fn leads_to(&self, b: usize) -> bool
         requires { b < self.now.heads.now.marks.classes }

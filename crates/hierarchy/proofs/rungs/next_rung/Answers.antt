@@ -1,8 +1,8 @@
 -- `hierarchy::rungs::next_rung` meets its contract: a rung leads on, and the first that does is found.
 -- Assumes nothing.
-use Rattle.std.proofs.Common.{◌≡◌, ℕ, Some, rules, ap, subst, sym, ◌∙◌}
+use Rattle.std.proofs.Common.{◌≡◌, ℕ, Some, rules, ap}
 use Rattle.std.proofs.lemmas.Iterator.{first_from_Range}
-use Rattle.std.specs.Option.{is_some, unwrap_or}
+use Rattle.std.specs.Option.{is_some}
 use Rattle.promise.specs.Hierarchy.{Under, Direct, NextRung}
 use Rattle.hierarchy.proofs.Climbing.{next_found}
 use Rattle.hierarchy.proofs.rungs.next_rung.Goals as goal
@@ -15,7 +15,7 @@ found :
     (next : ℕ) × (c.find.result ≡ Some next) × NextRung m.classes m.bytes.now c.args.goal c.args.rung next
 found c =
     let h = c.args.heads.now in
-    let s = c.of-steps in
+    let s = c.steps_from-steps in
     let n = s.result.heads.now.marks.classes in
     let t = s.result.heads.now.marks.bytes.now in
     let On : ℕ → Type 0 = λ k. Direct n t s.result.from k × Under h.marks.classes h.marks.bytes.now k c.args.goal in
@@ -30,7 +30,6 @@ unwrap-requires c = ap is_some (found c).1
 
 pub returns : goal.returns
 returns c =
-    let m = c.args.heads.now.marks in
     let f = found (goal.at.returns c).After-find in
-    let same = ap (λ r. unwrap_or r 0) (sym f.1 ∙ c.unwrap.ensures) in
-    subst (λ (next : ℕ). NextRung m.classes m.bytes.now c.args.goal c.args.rung next) same f.2
+    let same : f.0 ≡ c.unwrap.result = cc (f.1, c.unwrap.ensures) in
+    rw same at f.2

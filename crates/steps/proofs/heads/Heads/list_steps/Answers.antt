@@ -45,7 +45,7 @@ overflow_add-count c = omega (arith, so-few (goal.at.overflow_add-count c).In-lo
 pub loop-b-preserved : goal.loop-b-preserved
 loop-b-preserved c =
     let s = c.loop-b.invariant in
-    let direct = rw (c.of-from.ensures.heads, c.of-from.ensures.from) at c.leads_to.ensures in
+    let direct = rw (c.steps_from-from_a.ensures.heads, c.steps_from-from_a.ensures.from) at c.leads_to.ensures in
     elim c.if-leads_to.branch [
       | then-leads_to w ↦
           rw (w.steps-is, w.count-is)
