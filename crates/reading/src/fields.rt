@@ -82,13 +82,7 @@ impl<'b> Field<'b> {
     {
         let mut session = session;
         for at in (3..3 + self.length()).step_by(facts.width()) {
-            session = fact(
-                facts,
-                self.place + at,
-                &self.bytes[at..],
-                session,
-                &mut *table,
-            )?;
+            session = fact(facts, self.place + at, &self.bytes[at..], session, table)?;
         }
         Ok(session)
     }

@@ -29,7 +29,7 @@ pub fn read(book: &[u8], table: &mut [u8]) -> Result<Session, RefusedBook>
             place: at,
             bytes: &book[at..],
         };
-        session = field.read(stage, session, &mut *table)?;
+        session = field.read(stage, session, table)?;
         stage = Stage::Begun;
         at += 3 + field.length();
     }

@@ -50,9 +50,9 @@ impl Intake {
 pub fn replay(classes: usize, table: &mut [u8], history: &[Intake]) -> Result<Session, Refusal>
     ensures { Replayed classes table.old history.now (reply_of no_session result) table.new }
 {
-    let mut session = session::fresh(classes, &mut *table)?;
+    let mut session = session::fresh(classes, table)?;
     for intake in history {
-        session = intake.make(session, &mut *table).unwrap_or(session);
+        session = intake.make(session, table).unwrap_or(session);
     }
     Ok(session)
 }
