@@ -6,9 +6,8 @@ use Prim.Native.Nat.{ℕ, zero, suc, ◌+◌, ◌-◌, ◌*◌, ◌/◌, ◌%◌
 use native.Mathlib.Decide.{dec_lt}
 use native.Mathlib.Omega.{arith}
 use lib.ListN.{length, get_or, length-append, get_or-append}
-use lib.Seq.{get_or_at}
 use Rattle.std.proofs.Common.{add-one}
-use Rattle.std.proofs.lemmas.List.{length_push}
+use Rattle.std.proofs.lemmas.List.{length_push, places}
 use Rattle.buffers.specs.Decimal.{digit_0, digits, decimal}
 
 -- any bound that suffices gives the same digits
@@ -105,14 +104,11 @@ unfolding value_from
 written_one x h =
     record {
       value = omega arith;
-      each = λ i l. rw (single i l) (omega arith, omega arith);
+      each = λ i l. (grind (arith, places), grind (arith, places));
       leads = λ e. ap (λ (d : ℕ). d ∷ []) e;
       some = omega arith;
       short = λ k some l. omega arith;
     }
-  where
-    single : (i : ℕ) → i < 1 → i ≡ 0
-    single i l = omega arith
 
 written_more : (x : ℕ) (w : List ℕ) → 10 ≤ x → Written (x / 10) w → Written x (w ++ (digit_0 + x % 10) ∷ [])
 unfolding value_from
@@ -120,7 +116,7 @@ written_more x w h p =
     let d = digit_0 + x % 10 in
     record {
       value = value_more 0 w d ∙ omega (arith, p.value);
-      each = λ i l. go i (dec_lt i (length w)) (omega (arith, length-append w (d ∷ [])));
+      each = λ i l. (grind (arith, places, p.each i), grind (arith, places, p.each i));
       leads = λ e.
           let zero-alone = p.leads (sym (get_or-append w (d ∷ []) 0 0 p.some) ∙ e) in
           absurd (omega (arith, p.value, ap (λ (u : List ℕ). value_from 0 u) zero-alone));
@@ -128,17 +124,11 @@ written_more x w h p =
       short = less;
     }
   where
-    go : (i : ℕ) → Dec (i < length w) → i ≤ length w
-        → (digit_0 ≤ get_or (w ++ (digit_0 + x % 10) ∷ []) i 0)
-        × (get_or (w ++ (digit_0 + x % 10) ∷ []) i 0 < digit_0 + 10)
-    go i (yes l) _ = rw (get_or-append w ((digit_0 + x % 10) ∷ []) 0 i l) (p.each i l)
-    go i (no l) m = rw (get_or_at w (digit_0 + x % 10) [] 0 i (omega arith)) (omega arith, omega arith)
-
     less : (k : ℕ) → 0 < k → x < 10 ^ k → length (w ++ (digit_0 + x % 10) ∷ []) ≤ k
     less zero some l = absurd (omega arith)
     less (suc zero) some l = absurd (omega arith)
     less (suc (suc k)) some l =
-        omega (arith, length-append w ((digit_0 + x % 10) ∷ []), p.short (suc k) (omega arith) (omega arith))
+        omega (arith, length_push w (digit_0 + x % 10), p.short (suc k) (omega arith) (omega arith))
 
 pub decimal_written : (x : ℕ) → Written x (decimal x)
 decimal_written = decimal_by_steps Written written_one written_more

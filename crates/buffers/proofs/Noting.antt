@@ -37,19 +37,9 @@ pub record SoFar
     : Type 0 where
   pub noted : Noted out (pairs_before P dec n a b) count out₁
 
--- what leads from the start of row a to column b, whatever was noted before
-pub record Along
-    (P : ℕ → ℕ → Type 0) (dec : (a b : ℕ) → Dec (P a b)) (n a : ℕ) (out₁ : List ℕ) (count₁ : ℕ) (out₂ : List ℕ)
-    (count₂ b : ℕ)
-    : Type 0 where
-  pub carry : (out : List ℕ) → SoFar P dec n out count₁ out₁ a 0 → SoFar P dec n out count₂ out₂ a b
-
 module _ {P : ℕ → ℕ → Type 0} {dec : (a b : ℕ) → Dec (P a b)} {n : ℕ} where
   pub so_far_none : (out : List ℕ) → SoFar P dec n out 0 out 0 0
   so_far_none out = record { noted = rw (before_none P dec n) (noted_none out) }
-
-  pub along_none : {a count : ℕ} {out : List ℕ} → Along P dec n a out count out count 0
-  along_none = record { carry = λ out h. h }
 
   module _ {out : List ℕ} {count : ℕ} {out₁ : List ℕ} {a b : ℕ} (h : SoFar P dec n out count out₁ a b) where
     pub few : n ≤ 128 → a < n → b < n → count < 16384

@@ -1,14 +1,13 @@
 -- A buffer of which the part from an index on was lent.
 -- Assumes nothing.
-use mathlib.Core.Path.{◌≡◌, ◌∙◌, ap, ap₂}
-use mathlib.Core.List.{List, [], ◌++◌, append-nil}
+use mathlib.Core.Path.{◌≡◌}
+use mathlib.Core.List.{List, ◌++◌}
 use Prim.Native.Nat.{ℕ, ◌-◌, ◌≤◌}
 use native.Mathlib.Omega.{arith}
 use Rattle.std.proofs.Common.{rules}
 use Rattle.std.proofs.lemmas.List.{same_lists, places}
-use lib.ListN.{length, take, drop, length-append, length-drop, drop_of_length-le}
-use lib.Seq.{length-take-le, take_all}
-use Rattle.buffers.specs.Placed.{place, Placed}
+use lib.ListN.{length, take, drop}
+use Rattle.buffers.specs.Placed.{Placed}
 
 module _ (start : ℕ) (out : List ℕ) where
   -- the part of the buffer from start on

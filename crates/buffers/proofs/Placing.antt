@@ -2,10 +2,9 @@
 -- Assumes nothing.
 use mathlib.Core.Path.{◌≡◌, refl, sym, ◌∙◌, ap}
 use mathlib.Core.List.{List, [], ◌∷◌, ◌++◌}
-use Prim.Native.Nat.{ℕ, zero, suc, ◌+◌, ◌-◌, ◌≤◌, ◌<◌}
+use Prim.Native.Nat.{ℕ, ◌+◌, ◌-◌, ◌≤◌, ◌<◌}
 use native.Mathlib.Omega.{arith}
 use lib.ListN.{length, set, length-append, take-append-drop}
-use Rattle.promise.proofs.Counts.{over_fits}
 use Rattle.std.proofs.Common.{rules, add-one}
 use Rattle.std.proofs.lemmas.List.{same_lists, places, set_split, drop-drop}
 use Rattle.buffers.specs.Placed.{place, Placed, Put}

@@ -1,6 +1,6 @@
 -- `buffers::numbers::put_number` meets its contract: behind the digits that are left stand the others.
 -- Assumes nothing.
-use Rattle.std.proofs.Common.{ℕ, ◌≡◌, ◌+◌, ◌-◌, [], length, arith, append_assoc, append-nil, sym, ◌∙◌}
+use Rattle.std.proofs.Common.{◌≡◌, ◌+◌, ◌-◌, [], length, arith, append_assoc, append-nil, ◌∙◌}
 use Rattle.buffers.specs.Decimal.{decimal}
 use Rattle.buffers.proofs.Placing.{put_none, put_front}
 use Rattle.buffers.proofs.Decimals.{last_digits, last_more, last_all}
