@@ -1,6 +1,6 @@
 -- What next and hierarchy give where refusals 1 to 4 are not due, and what is then said of the table.
 -- Assumes nothing.
-use Rattle.std.proofs.Common.{◌≡◌, ℕ, ◌+◌, ◌≤◌, ◌<◌, List, [], ◌++◌, length, take, drop, map, ◌/◌, Option, Some, None, Result, Ok, Err}
+use Rattle.std.proofs.Common.{◌≡◌, ℕ, ◌+◌, ◌≤◌, ◌<◌, List, [], ◌++◌, length, take, drop, map, ◌/◌, ◌^◌, length-append, Option, Some, None, Result, Ok, Err}
 use Rattle.std.proofs.Common.{refl, sym, ◌∙◌, ap, arith, IsSome}
 use Rattle.std.proofs.Math.Nat.{mul-le-mul}
 use Rattle.order.specs.Tables.{opens, Pair, bytes_of}
@@ -20,7 +20,7 @@ use Rattle.promise.proofs.Triangles.{steps_few, hierarchy_accepted}
 use Rattle.buffers.specs.Placed.{Put}
 use Rattle.buffers.specs.Decimal.{decimal}
 use Rattle.buffers.proofs.Placing.{put_then}
-use Rattle.buffers.proofs.Decimals.{decimal_written}
+use Rattle.buffers.proofs.Decimals.{decimal_written, decimal_longest}
 use Rattle.std.specs.List.{zip, range_with_len}
 use Rattle.std.specs.Simd.{first_chunks}
 use Rattle.lines.specs.Lines.{line, capital_c, capital_e, capital_q, counts_line, refusal_line, Shows}
@@ -33,17 +33,14 @@ pub asks :
 asks s t (Some a) some h = refl
 asks s t None some h = absurd (omega (arith, (done_exactly s t h refl).0 refl))
 
--- and the pair asked about is the first open one, with a short line
-pub asked_first :
-    (s : Session) (t : List ℕ) (a : Asked) → Owed (next s t) (question_of (Ok (Some a)))
-    → FirstOpen s.classes t a.lower a.upper
-asked_first s t a h = h.done refl
-
+-- and the line of the pair asked about is short
 pub question_short :
-    {s : Session} {t : List ℕ} {a b : ℕ} → Stands s t → FirstOpen s.classes t a b
-    → length (line capital_q a b) ≤ 10
-question_short {a = a} {b = b} st p =
-    line_short capital_q a b (omega (arith, st.few, p.lower_below)) (omega (arith, st.few, p.upper_below))
+    (s : Session) (t : List ℕ) (a : Asked) → First (standing s t []) 0 → Owed (next s t) (question_of (Ok (Some a)))
+    → length (line capital_q a.lower a.upper) ≤ 10
+question_short s t a st h =
+    let few = (standing_passed [] s st).0.few in
+    let first = h.done refl in
+    line_short capital_q a.lower a.upper (omega (arith, first.lower_below)) (omega (arith, first.upper_below))
 
 -- what hierarchy gave: so many steps, and in the buffers the heads and the steps
 pub record Given (s : Session) (t heads steps : List ℕ) (r : Result ℕ Refusal) (heads' steps' : List ℕ) : Type 0 where
@@ -107,3 +104,43 @@ settled_put {steps = steps} g {come₂ = come₂} room classes pairs put put₂ 
       steps_of = g.steps_of;
       put = put_then of_classes (rw (back, lines_of_steps g.l) at put₂);
     }
+
+-- the counts of a table that stands are short, for they are below 100,000
+pub counts_short :
+    (s : Session) (t : List ℕ) (count : ℕ) → First (standing s t []) 0 → count ≡ opens s.classes t
+    → length (counts_line s.classes s.tests count) ≤ 22
+counts_short s t count st same =
+    let stands = (standing_passed [] s st).0 in
+    let few = square s.classes stands.few in
+    simp length-append
+    (omega (
+      arith,
+      byte_short s.classes (omega (arith, stands.few)),
+      (decimal_written s.tests).short 5 (omega arith) (omega (arith, stands.count)),
+      (decimal_written count).short 5 (omega arith) (omega (arith, stands.count)),
+    ))
+
+-- the lines of an accepted book whose table has no open pair, and of one whose table has one
+module _
+    {s : Session} {t text : List ℕ} {count behind : ℕ} {text₁ : List ℕ} {end : ℕ} {text₂ : List ℕ}
+    (same : count ≡ opens s.classes t) (counts : Put (counts_line s.classes s.tests count) 0 text behind text₁)
+  where
+    pub reported_settled : count ≡ 0 → SettledPut s.classes t behind text₁ end text₂ → Reported (accepted s) t text end text₂
+    reported_settled none settled =
+        record {
+          written = _;
+          says =
+              record {
+                refused = λ ne. absurd (ne refl);
+                accepted = λ _. Shows.settled (sym same ∙ none) settled.heads_of settled.steps_of;
+              };
+          put = put_then (rw none at counts) settled.put;
+        }
+
+    pub reported_open : QuestionPut s.classes t behind text₁ end text₂ → Reported (accepted s) t text end text₂
+    reported_open question =
+        record {
+          written = _;
+          says = record { refused = λ ne. absurd (ne refl); accepted = λ _. Shows.asks question.first };
+          put = put_then (rw same at counts) question.put;
+        }

@@ -1,32 +1,42 @@
-use Rattle.std.proofs.Common.{rules, ◌≡◌, [], ◌+◌, ◌<◌, ◌≤◌, length, ℕ, ◌-◌, ◌*◌, ◌/◌, ◌%◌, Bool, true, false, nat_eq, nat_lt, List, ◌∷◌, ◌++◌, slice_index_or, slice_set, bit_and, bit_or, Fits, w8, w32, w64, Bor, MutBor}
-use Rattle.promise.specs.Refusals.{First, standing, too_long}
-use Rattle.promise.specs.Book.{reply_of_read}
-use Rattle.order.specs.Tables.{opens}
-use Rattle.buffers.specs.Placed.{Put}
-use Rattle.lines.specs.Lines.{refusal_line}
-use Rattle.lines.specs.Put.{QuestionPut, SettledPut, Settled, Reportable, Reported}
+-- `lines::report` meets its contract: the lines stand one behind the other.
+-- Assumes nothing.
+use Rattle.std.proofs.Common.{ℕ, refl, arith, sym, ◌∙◌, rules, length-append}
+use Rattle.buffers.proofs.Decimals.{decimal_longest}
+use Rattle.lines.proofs.Saying.{counts_short, reported_settled, reported_open}
 use Rattle.lines.proofs.report.Goals as goal
 
--- src/lib.rt:88:25
 pub put_line-requires : goal.put_line-requires
-put_line-requires c = ?
+put_line-requires c = simp length-append (grind (arith, decimal_longest))
 
--- src/lib.rt:91:9
 pub put_counts-behind-requires : goal.put_counts-behind-requires
-put_counts-behind-requires c = ?
+put_counts-behind-requires c =
+    let ready = rw c.in-Ok.is at c.requires in
+    omega (arith, counts_short _ _ c.opened-pairs.result (ready.stands refl) c.opened-pairs.ensures)
 
--- src/lib.rt:93:9
 pub put_settled-requires : goal.put_settled-requires
-put_settled-requires c = ?
+put_settled-requires c =
+    let ready = rw c.in-Ok.is at c.requires in
+    record {
+      stands = ready.stands refl;
+      none_open = sym c.opened-pairs.ensures ∙ c.if-pairs-eq0.true;
+      heads_room = ready.heads_room;
+      steps_room = ready.steps_room;
+      text_room = omega (arith, c.put_counts-behind.ensures.ends, counts_short _ _ c.opened-pairs.result (ready.stands refl) c.opened-pairs.ensures);
+    }
 
--- src/lib.rt:95:9
 pub put_question-requires : goal.put_question-requires
-put_question-requires c = ?
+put_question-requires c =
+    let ready = rw c.in-Ok.is at c.requires in (
+      ready.stands refl,
+      omega arith,
+      omega (arith, c.put_counts-behind.ensures.ends, counts_short _ _ c.opened-pairs.result (ready.stands refl) c.opened-pairs.ensures),
+    )
 
--- src/lib.rt:76:1
 pub returns-then-pairs-eq0 : goal.returns-then-pairs-eq0
-returns-then-pairs-eq0 c = ?
+returns-then-pairs-eq0 c =
+    rw c.in-Ok.is
+    (reported_settled c.opened-pairs.ensures c.put_counts-behind.ensures c.if-pairs-eq0.true c.put_settled.ensures)
 
--- src/lib.rt:76:1
 pub returns-else-pairs-eq0 : goal.returns-else-pairs-eq0
-returns-else-pairs-eq0 c = ?
+returns-else-pairs-eq0 c =
+    rw c.in-Ok.is (reported_open c.opened-pairs.ensures c.put_counts-behind.ensures c.put_question.ensures)
