@@ -1,82 +1,88 @@
--- A flag that is raised where something is wrong, and stays: it is down exactly where nothing was wrong so far.
+-- A flag that is folded by `or` stays down exactly where no item raises it: of the marks, and of the rows of a pair.
 -- Assumes nothing.
-use mathlib.Core.Path.{◌≡◌, refl, sym, ◌∙◌, ap, subst}
-use mathlib.Core.Logic.{◌↔◌, ◌≢◌, ◌⊎◌, inl, inr, ⊎_elim}
-use mathlib.Core.Bool.{Bool, true, false, ◌&&◌, ◌||◌, not, true≢false}
-use Prim.Native.Nat.{ℕ, ◌+◌, ◌<◌, ◌≤◌}
+use mathlib.Core.Path.{◌≡◌, refl, sym, ◌∙◌}
+use mathlib.Core.Logic.{◌↔◌}
+use mathlib.Core.Bool.{Bool, true, false, ◌||◌, not}
+use mathlib.Core.List.{List, [], ◌∷◌}
+use Prim.Native.Nat.{ℕ, ◌<◌}
 use native.Mathlib.Omega.{arith}
-use borrow.Author.Count.{below_more}
-use borrow.Author.Tests.{not-true}
-use lib.Dec.{T, eqb, eqb→eq, eqb_refl, ltb, ltb→lt, nltb→le}
-use Rattle.standing.specs.Soundness.{Asks, against}
+use lib.Dec.{ltb}
+use lib.ListN.{get_or, length}
+use denote.Param.Members.{Mut}
+use Rattle.std.proofs.Common.{Option}
+use Rattle.std.specs.Fn.{Called}
+use Rattle.std.specs.Iterator.{Drains}
+use Rattle.std.specs.List.{FoldsTo, fold, list_any, zip}
+use Rattle.std.proofs.lemmas.Iterator.{YieldsList}
+use Rattle.std.proofs.lemmas.Iterator.Consumers.{fold_from_yields_List}
+use Rattle.std.proofs.lemmas.Bool.{false≢true, false_from_ne_true, not-true, not_from_false, ltb-false, le-ltb}
+use Rattle.std.proofs.lemmas.Bool.Decides.{nat_tests}
+use Rattle.std.proofs.lemmas.List.Elements.{All-from_get_or}
+use Rattle.std.proofs.lemmas.List.Folds.{list_any_at, list_any_none}
+use Rattle.std.proofs.lemmas.Slice.Zip.{length-zip, get_or-zip}
+use Rattle.order.specs.Tables.{mark}
+use Rattle.marks.specs.Shape.{AllOf, RowOf}
+use Rattle.standing.specs.Soundness.{Asks, against, SmallMarks, RowsAgree}
 
-pub record Clear (n : ℕ) (P : ℕ → Type 0) (wrong : Bool) (k : ℕ) : Type 0 where
-  pub within : k ≤ n
-  pub down : (wrong ≡ false) ↔ ((i : ℕ) → i < k → P i)
+module _ {X : Type 0} (raises : X → Bool) where
+  -- a flag that is raised by the items that a test picks
+  abbrev pub raised : Bool → List X → Bool
+  raised = fold (λ flag x. flag || raises x)
 
-pub clear_none : {n : ℕ} {P : ℕ → Type 0} → Clear n P false 0
-clear_none = record { within = omega arith; down = (λ _ i h. absurd (omega arith), λ _. refl) }
+  raised_any : (flag : Bool) (xs : List X) → raised flag xs ≡ (flag || list_any raises xs)
+  raised_any true [] = refl
+  raised_any false [] = refl
+  raised_any true (x ∷ xs) = raised_any true xs
+  raised_any false (x ∷ xs) = raised_any (raises x) xs
 
-both_down : (x y : Bool) → ((x || y) ≡ false) ↔ ((x ≡ false) × (y ≡ false))
-both_down true y = (λ e. absurd (true≢false e), λ p. p.0)
-both_down false y = (λ e. (refl, e), λ p. p.1)
+  -- a flag that was down stays down exactly where the test picks none of n items
+  pub stays_down :
+      {P : X → Type 0} → ((x : X) → (raises x ≡ false) ↔ P x) → (d : X) (xs : List X) {n : ℕ} {flag : Bool}
+      → length xs ≡ n → flag ≡ raised false xs → (not flag ≡ true) ↔ ((k : ℕ) → k < n → P (get_or xs k d))
+  stays_down told d xs {n} {flag} size e =
+      let same : flag ≡ list_any raises xs = e ∙ raised_any false xs in (
+        λ up k l. (told _).0
+            (false_from_ne_true _
+            (λ r. false≢true (sym (not-true flag up) ∙ same ∙ list_any_at raises xs k d (omega arith) r))),
+        λ all. not_from_false flag
+            (same ∙ list_any_none raises xs
+            (All-from_get_or (λ x. raises x ≡ false) xs d (λ k l. (told _).1 (all k (omega arith))))),
+      )
 
--- one place more was looked at
-pub clear_more :
-    {n : ℕ} {P : ℕ → Type 0} {wrong here : Bool} {k : ℕ} → k < n → Clear n P wrong k → (here ≡ false) ↔ P k
-    → Clear n P (wrong || here) (k + 1)
-clear_more {n} {P} {wrong} {here} {k} l h one =
-    record {
-      within = omega arith;
-      down = (
-        λ e. let p = (both_down wrong here).0 e in below_more P k (h.down.0 p.0) (one.0 p.1),
-        λ all. (both_down wrong here).1 (h.down.1 (λ i hi. all i (omega arith)), one.1 (all k (omega arith))),
-      );
-    }
-
--- all places were looked at
-pub clear_all :
-    {n : ℕ} {P : ℕ → Type 0} {wrong : Bool} {k : ℕ} → n ≤ k → Clear n P wrong k
-    → (not wrong ≡ true) ↔ ((i : ℕ) → i < n → P i)
-clear_all {n} {P} {wrong} {k} ended h = (
-  λ e i hi. h.down.0 (not-true wrong e) i (omega arith),
-  λ all. ap not (h.down.1 (λ i hi. all i (omega (arith, h.within)))),
-)
-
--- a comparison, decided
-compared : (x k : ℕ) → ((eqb x k ≡ true) × (x ≡ k)) ⊎ ((eqb x k ≡ false) × (x ≢ k))
-compared x k = go (eqb x k) refl
-  where
-    go : (b : Bool) → eqb x k ≡ b → ((eqb x k ≡ true) × (x ≡ k)) ⊎ ((eqb x k ≡ false) × (x ≢ k))
-    go true e = inl (e, eqb→eq x k (subst T (sym e) tt))
-    go false e = inr (e, λ z. absurd (subst T (rw z at e) (eqb_refl k)))
-
--- (x is k) and not (y is k): down exactly where x being k makes y k
-pass_on : (x y k : ℕ) → ((eqb x k && not (eqb y k)) ≡ false) ↔ (x ≡ k → y ≡ k)
-pass_on x y k =
-    ⊎_elim
-    (λ p. ⊎_elim (λ q. rw (p.0, q.0) (λ _ _. q.1, λ _. refl))
-    (λ q. rw (p.0, q.0) (λ e. absurd (true≢false e), λ f. absurd (q.1 (f p.1)))) (compared y k))
-    (λ p. rw p.0 (λ _ z. absurd (p.1 z), λ _. refl)) (compared x k)
+  -- a `fold` of a chain that gives these items raises it so
+  pub folded :
+      {S A F : Type 0} {steps : S → Option A → S → Type 0} {v : A → X} {s : S} {xs : List X} {f : F} {flag : Bool}
+      {g : Mut F (Bool × (A × Unit {0})) Bool}
+      → ((ys : List A) × (q : F) × Drains steps s ys
+      × FoldsTo {P = F × Bool} (λ a y b. Called g a.0 (a.1, (y, tt)) b.1 b.0) (f, false) ys (q, flag))
+      → YieldsList steps v s xs
+      → ((a : Bool) (y : A) (b : Bool) (q : F) → Called g f (a, (y, tt)) b q → (q ≡ f) × (b ≡ (a || raises (v y))))
+      → flag ≡ raised false xs
+  folded {flag = flag} {g = g} = fold_from_yields_List g (λ a x. a || raises x) false flag
 
 -- the test of what is asked at a class
-pub against_clear : (yes_pair : Bool) (x y : ℕ) → (against yes_pair x y ≡ false) ↔ Asks yes_pair x y
-against_clear true x y = (
-  λ e. let p = (both_down (eqb y 1 && not (eqb x 1)) (eqb x 2 && not (eqb y 2))).0 e
-      in ((pass_on y x 1).0 p.0, (pass_on x y 2).0 p.1),
-  λ h. (both_down (eqb y 1 && not (eqb x 1)) (eqb x 2 && not (eqb y 2))).1
-      ((pass_on y x 1).1 h.0, (pass_on x y 2).1 h.1),
-)
-against_clear false x y =
-    ⊎_elim
-    (λ p. ⊎_elim (λ q. rw (p.0, q.0) (λ e. absurd (true≢false e), λ f. absurd (f p.1 q.1)))
-    (λ q. rw (p.0, q.0) (λ _ _. q.1, λ _. refl)) (compared x 2))
-    (λ p. rw p.0 (λ _ z. absurd (p.1 z), λ _. refl)) (compared y 1)
+against_down : (settled : Bool) (x y : ℕ) → (against settled x y ≡ false) ↔ Asks settled x y
+against_down true x y =
+    (λ e. (λ p. grind (arith, nat_tests), λ p. grind (arith, nat_tests)), λ h. grind (arith, nat_tests))
+against_down false x y = (λ e p q. grind (arith, nat_tests), λ h. grind (arith, nat_tests))
 
-pub small_clear : (x : ℕ) → (ltb 2 x ≡ false) ↔ (x ≤ 2)
-small_clear x = go (ltb 2 x) refl
-  where
-    go : (b : Bool) → ltb 2 x ≡ b → (ltb 2 x ≡ false) ↔ (x ≤ 2)
-    go true e = let above = ltb→lt 2 x (subst T (sym e) tt)
-        in (λ z. absurd (true≢false (sym e ∙ z)), λ h. absurd (omega arith))
-    go false e = (λ _. nltb→le 2 x (subst (λ (b : Bool). T (not b)) (sym e) tt), λ _. e)
+module _ {n : ℕ} {t : List ℕ} {flag : Bool} where
+  pub marks_clear :
+      (marks : List ℕ) → AllOf n t marks → flag ≡ raised (ltb 2) false marks → (not flag ≡ true) ↔ SmallMarks n t
+  marks_clear marks all e =
+      let q = stays_down (ltb 2) (λ m. (ltb-false 2 m, le-ltb 2 m)) 0 marks all.size e in
+      (λ up. record { at = λ i l. rw (← all.at i l) (q.0 up i l) }, λ h. q.1 (λ i l. rw (all.at i l) (h.at i l)))
+
+  pub rows_clear :
+      {settled : Bool} {a b : ℕ} (row_a row_b : List ℕ) → RowOf n t a row_a → RowOf n t b row_b
+      → flag ≡ raised (λ (p : ℕ × ℕ). against settled p.0 p.1) false (zip row_a row_b)
+      → (not flag ≡ true) ↔ RowsAgree n t settled a b
+  rows_clear {settled} {a} {b} row_a row_b of_a of_b e =
+      let size : length (zip row_a row_b) ≡ n = omega (arith, length-zip row_a row_b, of_a.size, of_b.size) in
+      let q = stays_down _ (λ p. against_down settled p.0 p.1) (0, 0) (zip row_a row_b) size e in
+      (λ up. record { at = λ c l. rw (both c l) at (q.0 up c l) }, λ h. q.1 (λ c l. rw (both c l) (h.at c l)))
+    where
+      both : (c : ℕ) → c < n → get_or (zip row_a row_b) c (0, 0) ≡ (mark n t a c, mark n t b c)
+      both c l =
+          let pair = get_or-zip row_a row_b c (0, 0) (omega (arith, of_a.size)) (omega (arith, of_b.size)) in
+          cc (pair, of_a.at c l, of_b.at c l)

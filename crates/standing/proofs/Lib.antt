@@ -1,3 +1,4 @@
 pub mod Soundness
 pub mod Clear
 pub mod Left
+pub mod Every

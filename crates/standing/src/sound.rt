@@ -1,7 +1,7 @@
 // Whether a table is sound. Each pair is looked at with the rows of its two classes, a whole row at a time.
-ghost use Rattle.std.specs.Prelude.{◌≡◌, ◌↔◌, true, ◌<◌, length};
+ghost use Rattle.std.specs.Prelude.{◌≡◌, ◌↔◌, true, ◌<◌};
 ghost use Rattle.order.specs.Tables.{Sound};
-ghost use Rattle.standing.specs.Soundness.{against, SmallMarks, DiagonalYes, RowsAgree, PairStands};
+ghost use Rattle.standing.specs.Soundness.{against, SmallMarks, RowsAgree, PairStands, ClassStands};
 
 use marks::{Mark, Marks};
 
@@ -13,13 +13,6 @@ fn marks_small(marks: &Marks<'_>) -> bool
         .all()
         .iter()
         .fold(false, |wrong, mark| wrong | (*mark > Mark::No as u8))
-}
-
-// Whether the diagonal is yes.
-fn diagonal_yes(marks: &Marks<'_>) -> bool
-    ensures { (result ≡ true) ↔ DiagonalYes marks.now.classes marks.now.bytes.now }
-{
-    (0..marks.classes).all(|a| marks.under(a, a))
 }
 
 // Whether what a and b are marked with at one class speaks against the pair (a, b): against a yes, or against leaving
@@ -34,7 +27,8 @@ fn speaks_against(settled: bool, of_a: u8, of_b: u8) -> bool
     (of_b == yes) & (of_a == no)
 }
 
-// Whether the rows of a and b agree with the pair (a, b), a yes or an open one.
+// Whether the rows of a and b agree with the pair (a, b), a yes or an open one. This is the innermost of three loops,
+// folded without a branch too.
 fn rows_agree(marks: &Marks<'_>, settled: bool, a: usize, b: usize) -> bool
     requires { (a < marks.now.classes) × (b < marks.now.classes) }
     ensures { (result ≡ true) ↔ RowsAgree marks.now.classes marks.now.bytes.now settled a b }
@@ -51,26 +45,26 @@ fn pair_stands(marks: &Marks<'_>, a: usize, b: usize) -> bool
     requires { (a < marks.now.classes) × (b < marks.now.classes) }
     ensures { (result ≡ true) ↔ PairStands marks.now.classes marks.now.bytes.now a b }
 {
-    match marks.at(a, b) {
-        0 => rows_agree(marks, false, a, b),
-        1 => rows_agree(marks, true, a, b),
-        _ => true,
+    if marks.under(a, b) {
+        rows_agree(marks, true, a, b)
+    } else if marks.is(a, b, Mark::Open) {
+        rows_agree(marks, false, a, b)
+    } else {
+        true
     }
+}
+
+// Whether a is under itself, and what soundness asks of a and each class holds.
+fn class_stands(marks: &Marks<'_>, a: usize) -> bool
+    requires { a < marks.now.classes }
+    ensures { (result ≡ true) ↔ ClassStands marks.now.classes marks.now.bytes.now a }
+{
+    marks.under(a, a) && (0..marks.classes).all(|b| pair_stands(marks, a, b))
 }
 
 // Whether the table is sound.
 pub fn is_sound(marks: &Marks<'_>) -> bool
     ensures { (result ≡ true) ↔ Sound marks.now.classes marks.now.bytes.now }
 {
-    if !marks_small(marks) || !diagonal_yes(marks) {
-        return false;
-    }
-    for a in 0..marks.classes {
-        for b in 0..marks.classes {
-            if !pair_stands(marks, a, b) {
-                return false;
-            }
-        }
-    }
-    true
+    marks_small(marks) && (0..marks.classes).all(|a| class_stands(marks, a))
 }
