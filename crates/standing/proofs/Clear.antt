@@ -8,13 +8,7 @@ use Prim.Native.Nat.{ℕ, ◌<◌}
 use native.Mathlib.Omega.{arith}
 use lib.Dec.{ltb}
 use lib.ListN.{get_or, length}
-use denote.Param.Members.{Mut}
-use Rattle.std.proofs.Common.{Option}
-use Rattle.std.specs.Fn.{Called}
-use Rattle.std.specs.Iterator.{Drains}
-use Rattle.std.specs.List.{FoldsTo, fold, list_any, zip}
-use Rattle.std.proofs.lemmas.Iterator.{YieldsList}
-use Rattle.std.proofs.lemmas.Iterator.Consumers.{fold_from_yields_List}
+use Rattle.std.specs.List.{fold, list_any, zip}
 use Rattle.std.proofs.lemmas.Bool.{false≢true, false_from_ne_true, not-true, not_from_false, ltb-false, le-ltb}
 use Rattle.std.proofs.lemmas.Bool.Decides.{nat_tests}
 use Rattle.std.proofs.lemmas.List.Elements.{All-from_get_or}
@@ -48,17 +42,6 @@ module _ {X : Type 0} (raises : X → Bool) where
             (same ∙ list_any_none raises xs
             (All-from_get_or (λ x. raises x ≡ false) xs d (λ k l. (told _).1 (all k (omega arith))))),
       )
-
-  -- a `fold` of a chain that gives these items raises it so
-  pub folded :
-      {S A F : Type 0} {steps : S → Option A → S → Type 0} {v : A → X} {s : S} {xs : List X} {f : F} {flag : Bool}
-      {g : Mut F (Bool × (A × Unit {0})) Bool}
-      → ((ys : List A) × (q : F) × Drains steps s ys
-      × FoldsTo {P = F × Bool} (λ a y b. Called g a.0 (a.1, (y, tt)) b.1 b.0) (f, false) ys (q, flag))
-      → YieldsList steps v s xs
-      → ((a : Bool) (y : A) (b : Bool) (q : F) → Called g f (a, (y, tt)) b q → (q ≡ f) × (b ≡ (a || raises (v y))))
-      → flag ≡ raised false xs
-  folded {flag = flag} {g = g} = fold_from_yields_List g (λ a x. a || raises x) false flag
 
 -- the test of what is asked at a class
 against_down : (settled : Bool) (x y : ℕ) → (against settled x y ≡ false) ↔ Asks settled x y

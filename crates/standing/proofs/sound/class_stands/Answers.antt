@@ -9,5 +9,6 @@ use Rattle.standing.proofs.sound.class_stands.Goals as goal
 pub returns-then-under : goal.returns-then-under
 returns-then-under c =
     let m = c.args.marks.now in
-    let q = every m.classes (PairStands m.classes m.bytes.now c.args.a) c.all.ensures.ran (cc) (λ b r q k. search rules) in
+    let stands = PairStands m.classes m.bytes.now c.args.a in
+    let q = every m.classes stands c.all.ensures.ran (cc) (λ b r q k. search rules) in
     (λ e. record { diagonal = affirmed c.if-under.true c.under.ensures; pairs = q.0 e }, λ h. q.1 h.pairs)
