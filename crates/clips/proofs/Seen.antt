@@ -76,5 +76,5 @@ noes_agree {n} {t} {played} h = (
       let q = contrary_pair n played t c in
       q.2.2.0.1 ((h.0 e q.0 q.1 q.2.2.0.0).at q.2.0 q.2.1 q.2.2.1),
   λ none. h.1 (λ a ha p.
-  record { at = λ b hb m. stable (dec_flagged played b) (λ q. none (contrary n played t ha hb ((p, q), m))) }),
+      record { at = λ b hb m. stable (dec_flagged played b) (λ q. none (contrary n played t ha hb ((p, q), m))) }),
 )

@@ -26,19 +26,19 @@ fn take_clip(
     requires { First (standing session table.old []) 0 }
     ensures { Owed (clip session table.old played.now) (reply_of session result, table.new) }
 {
-    let n = session.classes;
-    if !none_beyond(n, played) {
+    let classes = session.classes;
+    if !none_beyond(classes, played) {
         return Err(Refusal::NoSuchClass);
     }
     let marks = Marks {
-        classes: n,
-        bytes: &*table,
+        classes,
+        bytes: table,
     };
     if !none_contradicts(&marks, played) {
         return Err(Refusal::Contradicted);
     }
-    let others = non_members(n, played);
-    passes::spread(n, &mut *table, played, &others, Mark::No);
+    let others = non_members(classes, played);
+    passes::spread(classes, table, played, &others, Mark::No);
     Ok(session)
 }
 
@@ -46,8 +46,8 @@ fn take_clip(
 pub fn clip(session: Session, table: &mut [u8], trial: Clip) -> Result<Session, Refusal>
     ensures { Owed (clip session table.old trial.played) (reply_of session result, table.new) }
 {
-    standing::checked(session, &*table)?;
-    take_clip(session, &mut *table, &trial.played)
+    standing::checked(session, table)?;
+    take_clip(session, table, &trial.played)
 }
 
 // The same with a byte for each flag, from class 0 on: set where it is not 0. Every class must have one, and at most
@@ -55,9 +55,9 @@ pub fn clip(session: Session, table: &mut [u8], trial: Clip) -> Result<Session, 
 pub fn clip_bytes(session: Session, table: &mut [u8], played: &[u8]) -> Result<Session, Refusal>
     ensures { Owed (clip_bytes session table.old played.now) (reply_of session result, table.new) }
 {
-    standing::checked(session, &*table)?;
-    if played.len() < session.classes || MOST_CLASSES < played.len() {
+    standing::checked(session, table)?;
+    if !(session.classes..=MOST_CLASSES).contains(&played.len()) {
         return Err(Refusal::NoSuchClass);
     }
-    take_clip(session, &mut *table, &flags_of(played))
+    take_clip(session, table, &flags_of(played))
 }

@@ -15,9 +15,9 @@ fn take_in(n: usize, table: &mut [u8], lower: usize, upper: usize, holds: bool)
     ensures { FactTaken n (fact_on lower upper holds) table.old table.new }
 {
     if holds {
-        passes::take_yes(n, &mut *table, lower, upper);
+        passes::take_yes(n, table, lower, upper);
     } else {
-        passes::take_no(n, &mut *table, lower, upper);
+        passes::take_no(n, table, lower, upper);
     }
 }
 
@@ -48,17 +48,17 @@ pub fn take_fact(
     ensures { Owed (tell kind session table.old (fact_on lower upper holds))
         (reply_of session result, table.new) }
 {
-    let n = session.classes;
-    if n <= lower || n <= upper {
+    let classes = session.classes;
+    if classes <= lower || classes <= upper {
         return Err(Refusal::NoSuchClass);
     }
     let marks = Marks {
-        classes: n,
-        bytes: &*table,
+        classes,
+        bytes: table,
     };
     match (marks.mark(lower, upper), holds) {
         (Mark::Open, _) => {
-            take_in(n, &mut *table, lower, upper, holds);
+            take_in(classes, table, lower, upper, holds);
             Ok(tested(session, kind))
         }
         (Mark::Yes, true) | (Mark::No, false) => Ok(session),
@@ -78,6 +78,6 @@ pub fn take(
     ensures { Owed (tell kind session table.old (fact_on lower upper holds))
         (reply_of session result, table.new) }
 {
-    standing::checked(session, &*table)?;
-    take_fact(session, &mut *table, lower, upper, holds, kind)
+    standing::checked(session, table)?;
+    take_fact(session, table, lower, upper, holds, kind)
 }

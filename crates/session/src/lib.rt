@@ -17,17 +17,14 @@ use promise::{Asked, Kind, MOST_CLASSES, Refusal, Session};
 pub fn fresh(classes: usize, table: &mut [u8]) -> Result<Session, Refusal>
     ensures { Owed (fresh classes table.old) (reply_of no_session result, table.new) }
 {
-    if classes == 0 || MOST_CLASSES < classes {
+    if !(1..=MOST_CLASSES).contains(&classes) {
         return Err(Refusal::BadCount);
     }
     if table.len() < classes * classes {
         return Err(Refusal::ShortTable);
     }
-    marks::fresh_marks(classes, &mut *table);
-    Ok(Session {
-        classes: classes,
-        tests: 0,
-    })
+    marks::fresh_marks(classes, table);
+    Ok(Session { classes, tests: 0 })
 }
 
 // A fact is told: it never counts as a test.
@@ -41,7 +38,7 @@ pub fn tell(
     ensures { Owed (tell Told session table.old (fact_on lower upper holds))
         (reply_of session result, table.new) }
 {
-    facts::take(session, &mut *table, lower, upper, holds, Kind::Told)
+    facts::take(session, table, lower, upper, holds, Kind::Told)
 }
 
 // A fact is given as an answer: it counts as a test where its pair was open.
@@ -55,7 +52,7 @@ pub fn answer(
     ensures { Owed (tell Answered session table.old (fact_on lower upper holds))
         (reply_of session result, table.new) }
 {
-    facts::take(session, &mut *table, lower, upper, holds, Kind::Answered)
+    facts::take(session, table, lower, upper, holds, Kind::Answered)
 }
 
 // The next question: the first open pair, rows in rising order and then columns, or that none is open.

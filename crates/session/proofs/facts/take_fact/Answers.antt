@@ -9,8 +9,8 @@ pub returns-in-Yes-true : goal.returns-in-Yes-true
 returns-in-Yes-true c =
     agreeing_accepted c.args.kind (stood _ _ 0 c.requires refl)
     (record {
-      lower_below = c.if-n-lower.false;
-      upper_below = c.if-n-upper.false;
+      lower_below = c.if-classes-lower.false;
+      upper_below = c.if-classes-upper.false;
       settled = rw c.in-Yes-true.is-1 c.in-Yes-true.ensures;
     })
 
@@ -18,7 +18,7 @@ pub returns-in-Yes-true-2 : goal.returns-in-Yes-true-2
 returns-in-Yes-true-2 c =
     agreeing_accepted c.args.kind (stood _ _ 0 c.requires refl)
     (record {
-      lower_below = c.if-n-lower.false;
-      upper_below = c.if-n-upper.false;
+      lower_below = c.if-classes-lower.false;
+      upper_below = c.if-classes-upper.false;
       settled = rw c.in-Yes-true.is-1 c.in-Yes-true.ensures;
     })
