@@ -15,7 +15,8 @@ fn write_ladder(marks: &Marks<'_>, a: usize, b: usize, rungs: &mut [u8]) -> Resu
         (count_of result, rungs.new) }
 {
     let heads = Heads::of(marks);
-    let count = climb(&heads, b, heads.head(a), 0, &mut *rungs);
+    let start = heads.head(a);
+    let count = climb(&heads, b, start, 0, &mut *rungs);
     if rungs.len() < count {
         return Err(Refusal::NoRoom);
     }
