@@ -23,12 +23,14 @@ pub fn put_bytes(out: &mut [u8], at: usize, bytes: &[u8]) -> usize
     behind
 }
 
-// A pair of classes, if there is room for it. Twice the number of pairs of 128 classes bounds the index.
+// A pair of classes, if there is room for it, by two stores, which are faster than a copy. Twice the number of pairs of
+// 128 classes bounds the index.
 pub fn put_pair(out: &mut [u8], at: usize, a: usize, b: usize)
     requires { (at ≤ 32768) × (a < 256) × (b < 256) }
     ensures { PairPut at a b out.old out.new }
 {
     if at + 2 <= out.len() {
-        put_bytes(out, at, &[a as u8, b as u8]);
+        let next = put_byte(out, at, a as u8);
+        put_byte(out, next, b as u8);
     }
 }
