@@ -1,13 +1,13 @@
 -- Lines put one behind the other: those of pairs of bytes, which are those of the classes and of the direct steps.
 -- Assumes nothing.
-use Rattle.std.proofs.Common.{◌≡◌, ℕ, zero, suc, ◌≤◌, ◌<◌, List, [], ◌∷◌, ◌++◌, length, get_or, take, map, Option, None, refl, sym, ◌∙◌, ap, append_assoc}
-use Rattle.std.proofs.Common.{append-nil, add-one, arith, length-append}
+use Rattle.std.proofs.Common.{◌≡◌, ℕ, zero, suc, ◌≤◌, ◌<◌, List, [], ◌∷◌, ◌++◌, length, get_or, take, map, Option, None}
+use Rattle.std.proofs.Common.{refl, sym, ◌∙◌, ap, append_assoc, append-nil, add-one, arith, length-append}
 use Rattle.std.specs.Iterator.{Drains}
+use Rattle.std.specs.List.{zip, range_with_len}
+use Rattle.std.specs.Simd.{first_chunks}
 use Rattle.std.proofs.lemmas.Iterator.{YieldsList}
 use Rattle.std.proofs.lemmas.Iterator.Consumers.{YieldsList-end}
 use Rattle.std.proofs.lemmas.List.{map-id}
-use Rattle.std.specs.List.{zip, range_with_len}
-use Rattle.std.specs.Simd.{first_chunks}
 use Rattle.order.specs.Tables.{Pair, bytes_of}
 use Rattle.buffers.specs.Placed.{Put}
 use Rattle.buffers.specs.Decimal.{decimal}
@@ -44,7 +44,8 @@ drained come d road = sym (map-id come) ∙ (YieldsList-end road come d.1.0 d.1.
 
 -- the lines of the classes from i on, each with its head
 pub lines_of_classes :
-    (i : ℕ) (hs behind : List ℕ) → lines capital_c (zip (range_with_len i (length hs)) (hs ++ behind)) ≡ class_lines i hs
+    (i : ℕ) (hs behind : List ℕ)
+    → lines capital_c (zip (range_with_len i (length hs)) (hs ++ behind)) ≡ class_lines i hs
 lines_of_classes i [] behind = refl
 lines_of_classes i (h ∷ hs) behind =
     rw add-one (ap (λ (u : List ℕ). line capital_c i h ++ u) (lines_of_classes (suc i) hs behind))

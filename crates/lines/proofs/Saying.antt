@@ -1,35 +1,32 @@
 -- What next and hierarchy give where refusals 1 to 4 are not due, and what is then said of the table.
 -- Assumes nothing.
-use Rattle.std.proofs.Common.{◌≡◌, ℕ, ◌+◌, ◌≤◌, ◌<◌, List, [], ◌++◌, length, take, drop, map, ◌/◌, ◌^◌, length-append, Option, Some, None, Result, Ok, Err}
-use Rattle.std.proofs.Common.{refl, sym, ◌∙◌, ap, arith, IsSome}
-use Rattle.std.proofs.Math.Nat.{mul-le-mul}
+use Rattle.std.proofs.Common.{◌≡◌, ℕ, ◌+◌, ◌/◌, ◌≤◌, ◌<◌, List, [], ◌++◌, length, take, drop, map, refl, sym, ◌∙◌, ap}
+use Rattle.std.proofs.Common.{Option, Some, None, IsSome, Result, Ok, Err, arith, length-append}
+use Rattle.std.specs.List.{zip, range_with_len}
+use Rattle.std.specs.Simd.{first_chunks}
 use Rattle.order.specs.Tables.{opens, Pair, bytes_of}
 use Rattle.promise.specs.declared.Asked.{Asked}
 use Rattle.promise.specs.declared.Refusal.{Refusal}
-use Rattle.promise.specs.declared.RefusedBook.{RefusedBook}
 use Rattle.promise.specs.declared.Session.{Session}
-use Rattle.promise.specs.Refusals.{First, standing, number_of}
+use Rattle.promise.specs.Refusals.{First, standing}
 use Rattle.promise.specs.Calls.{Counted, Owed, accepted, count_of, over}
-use Rattle.promise.specs.Next.{FirstOpen, next, question_of}
+use Rattle.promise.specs.Next.{next, question_of}
 use Rattle.promise.specs.Hierarchy.{HeadsOf, StepsOf, hierarchy}
-use Rattle.promise.specs.Book.{reply_of_read}
 use Rattle.promise.proofs.Answers.{number_positive}
-use Rattle.promise.proofs.Standing.{Stands, standing_passed, square}
+use Rattle.promise.proofs.Standing.{standing_passed, square}
 use Rattle.promise.proofs.Next.{done_exactly}
 use Rattle.promise.proofs.Triangles.{steps_few, hierarchy_accepted}
 use Rattle.buffers.specs.Placed.{Put}
-use Rattle.buffers.specs.Decimal.{decimal}
 use Rattle.buffers.proofs.Placing.{put_then}
-use Rattle.buffers.proofs.Decimals.{decimal_written, decimal_longest}
-use Rattle.std.specs.List.{zip, range_with_len}
-use Rattle.std.specs.Simd.{first_chunks}
-use Rattle.lines.specs.Lines.{line, capital_c, capital_e, capital_q, counts_line, refusal_line, Shows}
+use Rattle.buffers.proofs.Decimals.{decimal_written}
+use Rattle.lines.specs.Lines.{line, capital_c, capital_e, capital_q, counts_line, Shows}
 use Rattle.lines.specs.Put.{lines, QuestionPut, Settled, SettledPut, Reported}
-use Rattle.lines.proofs.LineByLine.{byte_short, line_short, pair_of, lines_of_classes, lines_of_steps, pairs_back}
+use Rattle.lines.proofs.LineByLine.{byte_short, line_short, lines_of_classes, lines_of_steps, pair_of, pairs_back}
 
 -- where a pair is open next asks
 pub asks :
-    (s : Session) (t : List ℕ) (o : Option Asked) → 0 < opens s.classes t → Owed (next s t) (question_of (Ok o)) → IsSome o
+    (s : Session) (t : List ℕ) (o : Option Asked) → 0 < opens s.classes t → Owed (next s t) (question_of (Ok o))
+    → IsSome o
 asks s t (Some a) some h = refl
 asks s t None some h = absurd (omega (arith, (done_exactly s t h refl).0 refl))
 
@@ -42,23 +39,24 @@ question_short s t a st h =
     let first = h.done refl in
     line_short capital_q a.lower a.upper (omega (arith, first.lower_below)) (omega (arith, first.upper_below))
 
--- what hierarchy gave: so many steps, and in the buffers the heads and the steps
+-- what hierarchy gave: heads and steps, which it wrote, and how many steps
 pub record Given (s : Session) (t heads steps : List ℕ) (r : Result ℕ Refusal) (heads' steps' : List ℕ) : Type 0 where
   pub hs : List ℕ
   pub l : List Pair
   pub heads_of : HeadsOf s.classes t hs
   pub steps_of : StepsOf s.classes t l
-  pub classes_few : s.classes ≤ 128
   pub counted : r ≡ Ok (length l)
-  pub few : length l ≤ 4096
+  pub classes_few : s.classes ≤ 128
+  pub steps_few : length l ≤ 4096
   pub heads_there : heads' ≡ over hs heads
   pub steps_there : steps' ≡ over (bytes_of l) steps
 
+-- where no pair is open and there is room hierarchy refuses nothing
 pub given :
     {s : Session} {t heads steps text : List ℕ} {at : ℕ} {heads' steps' : List ℕ} (r : Result ℕ Refusal)
     → Settled s t heads steps text at → Owed (hierarchy s t heads steps) (count_of r, (heads', steps'))
     → Given s t heads steps r heads' steps'
-given {s} {t} (Ok count) ready h =
+given {s} (Ok count) ready h =
     let (hs, l, found, listed, same) = h.done refl in
     let st = (standing_passed [] s ready.stands).0 in
     let counted = ap (λ (o : Counted × (List ℕ × List ℕ)). o.0) same in
@@ -67,9 +65,9 @@ given {s} {t} (Ok count) ready h =
       l = l;
       heads_of = found;
       steps_of = listed;
-      classes_few = st.few;
       counted = cc;
-      few = omega (arith, steps_few st.sound listed, square s.classes st.few);
+      classes_few = st.few;
+      steps_few = omega (arith, steps_few st.sound listed, square s.classes st.few);
       heads_there = ap (λ (o : Counted × (List ℕ × List ℕ)). o.1.0) same;
       steps_there = ap (λ (o : Counted × (List ℕ × List ℕ)). o.1.1) same;
     }
@@ -90,19 +88,19 @@ pub settled_put :
     → Put (lines capital_c come) at text behind text₁ → Put (lines capital_e come₂) behind text₁ end text₂
     → SettledPut s.classes t at text end text₂
 settled_put {steps = steps} g {come₂ = come₂} room classes pairs put put₂ =
-    let of_classes =
-    rw (classes, g.heads_there, ← g.heads_of.size, lines_of_classes 0 g.hs) at put
-    in
     let back : come₂ ≡ g.l =
     rw (pairs, g.steps_there)
-    (pairs_back g.l (drop (length (bytes_of g.l)) steps) _ (omega (arith, g.few, room, ap length g.steps_there)))
+    (pairs_back g.l (drop (length (bytes_of g.l)) steps) _
+    (omega (arith, g.steps_few, room, ap length g.steps_there)))
     in
     record {
       heads = g.hs;
       steps = g.l;
       heads_of = g.heads_of;
       steps_of = g.steps_of;
-      put = put_then of_classes (rw (back, lines_of_steps g.l) at put₂);
+      put =
+          put_then (rw (classes, g.heads_there, ← g.heads_of.size, lines_of_classes 0 g.hs) at put)
+          (rw (back, lines_of_steps g.l) at put₂);
     }
 
 -- the counts of a table that stands are short, for they are below 100,000
@@ -125,7 +123,8 @@ module _
     {s : Session} {t text : List ℕ} {count behind : ℕ} {text₁ : List ℕ} {end : ℕ} {text₂ : List ℕ}
     (same : count ≡ opens s.classes t) (counts : Put (counts_line s.classes s.tests count) 0 text behind text₁)
   where
-    pub reported_settled : count ≡ 0 → SettledPut s.classes t behind text₁ end text₂ → Reported (accepted s) t text end text₂
+    pub reported_settled :
+        count ≡ 0 → SettledPut s.classes t behind text₁ end text₂ → Reported (accepted s) t text end text₂
     reported_settled none settled =
         record {
           written = _;

@@ -1,6 +1,6 @@
 -- What the functions that put lines into a buffer need, and what they leave.
 -- Assumes nothing.
-use Rattle.std.specs.Prelude.{◌≡◌, List, [], ◌∷◌, ◌++◌, ℕ, zero, suc, ◌+◌, ◌*◌, ◌≤◌, length, get_or}
+use Rattle.std.specs.Prelude.{◌≡◌, List, [], ◌∷◌, ◌++◌, ℕ, ◌+◌, ◌*◌, ◌≤◌, length}
 use Rattle.order.specs.Tables.{opens, Pair}
 use Rattle.promise.specs.Refusals.{First, standing}
 use Rattle.promise.specs.declared.Session.{Session}
@@ -9,16 +9,6 @@ use Rattle.promise.specs.Next.{FirstOpen}
 use Rattle.promise.specs.Hierarchy.{HeadsOf, StepsOf}
 use Rattle.buffers.specs.Placed.{Put}
 use Rattle.lines.specs.Lines.{line, question_line, class_lines, step_lines, Says}
-
--- k lines w were put, of at most 10 bytes each
-pub record LinesPut (k : ℕ) (w : List ℕ) (at : ℕ) (text : List ℕ) (behind : ℕ) (text' : List ℕ) : Type 0 where
-  pub put : Put w at text behind text'
-  pub short : behind ≤ at + 10 * k
-
--- the first pairs of a list that has two bytes each, as many as are asked for
-abbrev pub pairs_in : ℕ → List ℕ → List Pair
-pairs_in zero bytes = []
-pairs_in (suc k) bytes = pairs_in k bytes ++ (get_or bytes (2 * k) 0, get_or bytes (2 * k + 1) 0) ∷ []
 
 -- a line for each pair, behind its letter
 abbrev pub lines : ℕ → List Pair → List ℕ

@@ -1,7 +1,6 @@
 // The lines that the printing program writes, put into a lent buffer.
 #![tactic(auto)]
 
-mod listing;
 mod text;
 
 ghost use Rattle.std.specs.Prelude.{◌≡◌, [], ◌+◌, ◌<◌, ◌≤◌, length};
@@ -13,9 +12,8 @@ ghost use Rattle.lines.specs.Lines.{refusal_line};
 ghost use Rattle.lines.specs.Put.{QuestionPut, SettledPut, Settled, Reportable, Reported};
 
 use dawnhangra::{hierarchy, next, open_pairs};
-use listing::put_lines;
 use promise::{Refusal, RefusedBook, Session};
-use text::{put_counts, put_line};
+use text::{put_counts, put_line, put_lines};
 
 // The most bytes that the printing program reads.
 pub const MOST_INPUT: usize = 32768;
@@ -58,15 +56,15 @@ fn put_settled(
     requires { Settled session table.now heads.old steps.old text.old at }
     ensures { SettledPut session.classes table.now at text.old result text.new }
 {
-    let count = hierarchy(session, table, &mut *heads, &mut *steps).unwrap();
+    let count = hierarchy(session, table, heads, steps).unwrap();
     let of_classes = (0..session.classes as u8).zip(heads.iter().copied());
-    let behind = put_lines(b'C', of_classes, &mut *text, at);
+    let behind = put_lines(text, at, b'C', of_classes);
     let (pairs, _) = steps.as_chunks::<2>();
     let of_steps = pairs
         .iter()
         .take(count)
         .map(|[lower, upper]| (*lower, *upper));
-    put_lines(b'E', of_steps, text, behind)
+    put_lines(text, behind, b'E', of_steps)
 }
 
 // What the printing program writes of a book that was read, and of the table that reading gave. Gives the number of
@@ -86,7 +84,7 @@ pub fn report(
         Err(refused) => return put_line(text, 0, b'R', refused.why as usize, refused.place),
     };
     let pairs = opened(session, table);
-    let behind = put_counts(&mut *text, session.classes, session.tests, pairs);
+    let behind = put_counts(text, session.classes, session.tests, pairs);
     if pairs == 0 {
         put_settled(session, table, heads, steps, text, behind)
     } else {

@@ -1,26 +1,21 @@
 // Numbers and lines, put into a buffer from an index on. Each function gives the index behind what it put.
-ghost use Rattle.std.specs.Prelude.{◌∷◌, ◌+◌, ◌≤◌, length};
+ghost use Rattle.std.specs.Prelude.{◌++◌, ◌+◌, ◌*◌, ◌≤◌, List, length};
+ghost use Rattle.std.specs.Iterator.{Drains, IsFinite, size};
+ghost use Rattle.order.specs.Tables.{Pair};
 ghost use Rattle.buffers.specs.Placed.{Put};
-ghost use Rattle.lines.specs.Lines.{space, spaced, labelled, line, counts_line};
+ghost use Rattle.buffers.specs.Decimal.{decimal};
+ghost use Rattle.lines.specs.Lines.{line, counts_line};
+ghost use Rattle.lines.specs.Put.{lines};
 
-use buffers::{put_byte, put_number};
+use buffers::{put_byte, put_bytes, put_number};
 
-// A space and a number.
-fn put_spaced(text: &mut [u8], at: usize, number: usize) -> usize
-    requires { at + length (spaced number) ≤ length text.old }
-    ensures { Put (spaced number) at text.old result text.new }
+// A number, behind the bytes that announce it.
+fn put_announced(text: &mut [u8], at: usize, before: &[u8], number: usize) -> usize
+    requires { at + length (before.now ++ decimal number) ≤ length text.old }
+    ensures { Put (before.now ++ decimal number) at text.old result text.new }
 {
-    let behind = put_byte(&mut *text, at, b' ');
+    let behind = put_bytes(text, at, before);
     put_number(text, behind, number)
-}
-
-// A letter and a number.
-fn put_labelled(text: &mut [u8], at: usize, letter: u8, number: usize) -> usize
-    requires { at + length (labelled letter number) ≤ length text.old }
-    ensures { Put (labelled letter number) at text.old result text.new }
-{
-    let behind = put_byte(&mut *text, at, letter);
-    put_spaced(text, behind, number)
 }
 
 // A letter, two numbers and a line feed.
@@ -28,18 +23,36 @@ pub fn put_line(text: &mut [u8], at: usize, letter: u8, first: usize, second: us
     requires { at + length (line letter first second) ≤ length text.old }
     ensures { Put (line letter first second) at text.old result text.new }
 {
-    let mut behind = put_labelled(&mut *text, at, letter, first);
-    behind = put_spaced(&mut *text, behind, second);
+    let mut behind = put_announced(text, at, &[letter, b' '], first);
+    behind = put_announced(text, behind, b" ", second);
     put_byte(text, behind, b'\n')
 }
 
-// A further letter and number, behind a space.
-fn put_further(text: &mut [u8], at: usize, letter: u8, number: usize) -> usize
-    requires { at + length (space ∷ labelled letter number) ≤ length text.old }
-    ensures { Put (space ∷ labelled letter number) at text.old result text.new }
+// A line for each pair of bytes that comes.
+pub fn put_lines<I: Iterator<Item = (u8, u8)>>(
+    text: &mut [u8],
+    at: usize,
+    letter: u8,
+    pairs: I,
+) -> usize
+    requires can { I.can_next pairs }
+    requires finite { IsFinite (I.remaining pairs) }
+    requires room { at + 10 * size (I.remaining pairs) ≤ length text.old }
+    ensures put { (come : List Pair) × Drains I.next_gives pairs come
+        × Put (lines letter come) at text.old result text.new }
+    ensures short { result ≤ at + 10 * size (I.remaining pairs) }
 {
-    let behind = put_byte(&mut *text, at, b' ');
-    put_labelled(text, behind, letter, number)
+    let mut behind = at;
+    for (first, second) in pairs {
+        behind = put_line(
+            text,
+            behind,
+            letter,
+            usize::from(first),
+            usize::from(second),
+        );
+    }
+    behind
 }
 
 // The classes, the tally and the number of open pairs, each behind its letter, and a line feed.
@@ -47,8 +60,8 @@ pub fn put_counts(text: &mut [u8], classes: usize, tests: usize, pairs: usize) -
     requires { length (counts_line classes tests pairs) ≤ length text.old }
     ensures { Put (counts_line classes tests pairs) 0 text.old result text.new }
 {
-    let mut behind = put_labelled(&mut *text, 0, b'N', classes);
-    behind = put_further(&mut *text, behind, b'T', tests);
-    behind = put_further(&mut *text, behind, b'O', pairs);
+    let mut behind = put_announced(text, 0, b"N ", classes);
+    behind = put_announced(text, behind, b" T ", tests);
+    behind = put_announced(text, behind, b" O ", pairs);
     put_byte(text, behind, b'\n')
 }

@@ -1,6 +1,6 @@
 -- `lines::report` meets its contract: the lines stand one behind the other.
 -- Assumes nothing.
-use Rattle.std.proofs.Common.{ℕ, refl, arith, sym, ◌∙◌, rules, length-append}
+use Rattle.std.proofs.Common.{refl, sym, ◌∙◌, arith, length-append}
 use Rattle.buffers.proofs.Decimals.{decimal_longest}
 use Rattle.lines.proofs.Saying.{counts_short, reported_settled, reported_open}
 use Rattle.lines.proofs.report.Goals as goal
@@ -16,21 +16,20 @@ put_counts-behind-requires c =
 pub put_settled-requires : goal.put_settled-requires
 put_settled-requires c =
     let ready = rw c.in-Ok.is at c.requires in
+    let short = counts_short _ _ c.opened-pairs.result (ready.stands refl) c.opened-pairs.ensures in
     record {
       stands = ready.stands refl;
       none_open = sym c.opened-pairs.ensures ∙ c.if-pairs-eq0.true;
       heads_room = ready.heads_room;
       steps_room = ready.steps_room;
-      text_room = omega (arith, c.put_counts-behind.ensures.ends, counts_short _ _ c.opened-pairs.result (ready.stands refl) c.opened-pairs.ensures);
+      text_room = omega (arith, short, c.put_counts-behind.ensures.ends);
     }
 
 pub put_question-requires : goal.put_question-requires
 put_question-requires c =
-    let ready = rw c.in-Ok.is at c.requires in (
-      ready.stands refl,
-      omega arith,
-      omega (arith, c.put_counts-behind.ensures.ends, counts_short _ _ c.opened-pairs.result (ready.stands refl) c.opened-pairs.ensures),
-    )
+    let ready = rw c.in-Ok.is at c.requires in
+    let short = counts_short _ _ c.opened-pairs.result (ready.stands refl) c.opened-pairs.ensures in
+    (ready.stands refl, omega arith, omega (arith, short, c.put_counts-behind.ensures.ends))
 
 pub returns-then-pairs-eq0 : goal.returns-then-pairs-eq0
 returns-then-pairs-eq0 c =

@@ -5,6 +5,6 @@ use Rattle.lines.proofs.text.put_counts.Goals as goal
 
 pub returns : goal.returns
 returns c =
-    put_then c.put_labelled-behind.ensures
-    (put_then c.put_further-behind.ensures
-    (put_then c.put_further-behind-2.ensures c.put_byte.ensures))
+    put_then c.put_announced-behind.ensures
+    (put_then c.put_announced-behind-2.ensures
+    (put_then c.put_announced-behind-3.ensures c.put_byte.ensures))

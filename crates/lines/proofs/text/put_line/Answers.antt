@@ -5,5 +5,5 @@ use Rattle.lines.proofs.text.put_line.Goals as goal
 
 pub returns : goal.returns
 returns c =
-    put_then c.put_labelled-behind.ensures
-    (put_then c.put_spaced-behind.ensures c.put_byte.ensures)
+    put_then c.put_announced-behind.ensures
+    (put_then c.put_announced-behind-2.ensures c.put_byte.ensures)

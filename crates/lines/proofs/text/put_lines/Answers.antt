@@ -1,8 +1,8 @@
--- `lines::listing::put_lines` meets its contract: the lines of the pairs that have come stand there.
+-- `lines::text::put_lines` meets its contract: the lines of the pairs that have come stand there.
 -- Assumes nothing.
 use Rattle.std.proofs.Common.{rules, arith}
 use Rattle.lines.proofs.LineByLine.{line_short, line_more}
-use Rattle.lines.proofs.listing.put_lines.Goals as goal
+use Rattle.lines.proofs.text.put_lines.Goals as goal
 
 pub put_line-behind-requires : goal.put_line-behind-requires
 put_line-behind-requires g c =

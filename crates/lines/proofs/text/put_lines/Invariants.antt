@@ -1,9 +1,9 @@
--- `lines::listing::put_lines` meets its contract: the lines of the pairs that have come stand there.
+-- `lines::text::put_lines` meets its contract: the lines of the pairs that have come stand there.
 -- Assumes nothing.
 use Rattle.std.proofs.Common.{◌+◌, ◌*◌, ◌≤◌}
 use Rattle.buffers.specs.Placed.{Put}
 use Rattle.lines.specs.Put.{lines}
-use Rattle.lines.proofs.listing.put_lines.Given as goal
+use Rattle.lines.proofs.text.put_lines.Given as goal
 
 abbrev pub invariant-loop-first : goal.invariant-loop-first
 invariant-loop-first g l =
