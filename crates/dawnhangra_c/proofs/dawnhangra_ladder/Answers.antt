@@ -1,0 +1,9 @@
+-- `dawnhangra_c::dawnhangra_ladder` meets its contract: what C gets is the image of what the call gave.
+-- Assumes nothing.
+use mathlib.Core.Path.{refl}
+use Rattle.promise.specs.Hierarchy.{ladder}
+use Rattle.promise.proofs.Crossing.{writes_crosses}
+use Rattle.dawnhangra_c.proofs.dawnhangra_ladder.Goals as goal
+
+pub returns : goal.returns
+returns c = rw c.from.ensures (writes_crosses (ladder _ _ _ _ _) (λ o. refl) c.ladder.ensures)
