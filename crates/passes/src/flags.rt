@@ -1,19 +1,31 @@
 // Lines of the table, read into flags before a pass writes to it.
-ghost use Rattle.std.specs.Prelude.{◌≡◌, ◌<◌};
+ghost use Rattle.std.specs.Prelude.{◌≡◌, ◌<◌, ◌≤◌, ℕ, false, slice_index_or};
 ghost use Rattle.order.specs.Tables.{mark};
 ghost use Rattle.marks.specs.Bytes.{byte_of};
 ghost use Rattle.passes.specs.Spread.{FlagsOf};
 
 use marks::{Mark, Marks};
 use promise::MOST_CLASSES;
-use std::array;
+
+// The classes below n that pass a test.
+fn flags_of<F: Fn(usize) -> bool>(n: usize, test: F) -> [bool; MOST_CLASSES]
+    requires few { n ≤ 128 }
+    requires callable { (x : ℕ) → x < n → F.pre test x }
+    ensures { (x : ℕ) → x < n → F.post test x (slice_index_or result x false) }
+{
+    let mut flags = [false; MOST_CLASSES];
+    for x in 0..n {
+        flags[x] = test(x);
+    }
+    flags
+}
 
 // The classes at which the row of a class has this mark.
 pub fn row_flags(marks: &Marks<'_>, class: usize, wanted: Mark) -> [bool; MOST_CLASSES]
     requires { class < marks.now.classes }
     ensures { FlagsOf marks.now.classes (λ y. mark marks.now.classes marks.now.bytes.now class y ≡ byte_of wanted) result }
 {
-    array::from_fn(|y| y < marks.classes && marks.is(class, y, wanted))
+    flags_of(marks.classes, |y| marks.is(class, y, wanted))
 }
 
 // The classes at which the column of a class has this mark.
@@ -21,5 +33,5 @@ pub fn column_flags(marks: &Marks<'_>, class: usize, wanted: Mark) -> [bool; MOS
     requires { class < marks.now.classes }
     ensures { FlagsOf marks.now.classes (λ x. mark marks.now.classes marks.now.bytes.now x class ≡ byte_of wanted) result }
 {
-    array::from_fn(|x| x < marks.classes && marks.is(x, class, wanted))
+    flags_of(marks.classes, |x| marks.is(x, class, wanted))
 }
