@@ -23,7 +23,8 @@ fn flags_of<F: Fn(usize) -> bool>(n: usize, test: F) -> [bool; MOST_CLASSES]
 // The classes at which the row of a class has this mark.
 pub fn row_flags(marks: &Marks<'_>, class: usize, wanted: Mark) -> [bool; MOST_CLASSES]
     requires { class < marks.now.classes }
-    ensures { FlagsOf marks.now.classes (λ y. mark marks.now.classes marks.now.bytes.now class y ≡ byte_of wanted) result }
+    ensures { FlagsOf marks.now.classes
+        (λ y. mark marks.now.classes marks.now.bytes.now class y ≡ byte_of wanted) result }
 {
     flags_of(marks.classes, |y| marks.is(class, y, wanted))
 }
@@ -31,7 +32,8 @@ pub fn row_flags(marks: &Marks<'_>, class: usize, wanted: Mark) -> [bool; MOST_C
 // The classes at which the column of a class has this mark.
 pub fn column_flags(marks: &Marks<'_>, class: usize, wanted: Mark) -> [bool; MOST_CLASSES]
     requires { class < marks.now.classes }
-    ensures { FlagsOf marks.now.classes (λ x. mark marks.now.classes marks.now.bytes.now x class ≡ byte_of wanted) result }
+    ensures { FlagsOf marks.now.classes
+        (λ x. mark marks.now.classes marks.now.bytes.now x class ≡ byte_of wanted) result }
 {
     flags_of(marks.classes, |x| marks.is(x, class, wanted))
 }

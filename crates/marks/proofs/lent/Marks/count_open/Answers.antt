@@ -11,7 +11,12 @@ use Rattle.marks.proofs.lent.Marks.count_open.Goals as goal
 pub sum-requires-clause-fits : goal.sum-requires-clause-fits
 sum-requires-clause-fits c =
     let few : count_by (λ m. m == 0) c.all.result.now < 2 ^ 64 =
-    omega (arith, count_by-le-length (λ m. m == 0) c.all.result.now, c.all.ensures.size, square _ c.args.self.now.shape.few)
+    omega (
+      arith,
+      count_by-le-length (λ m. m == 0) c.all.result.now,
+      c.all.ensures.size,
+      square _ c.args.self.now.shape.few,
+    )
     in
     fits_by_from_yields_list (λ m. cond (m == 0) 1 0) c.all.result.now c.map.result _
     (YieldsList-from_map _ _ (YieldsList-from_slice _ (cc)) c.map.ensures.closure (λ x r q k. search (rules, tests)))
