@@ -10,7 +10,7 @@ use Rattle.promise.specs.Refusals.{First, standing}
 use Rattle.promise.specs.Calls.{Counted}
 use Rattle.promise.specs.Calls.Counted.{Count, Refused}
 use Rattle.promise.specs.Calls.{Owed, TooShort}
-use Rattle.promise.specs.Hierarchy.{Under, HeadOf, HeadsOf, StepBytes, hierarchy_refusals, hierarchy, LadderOf}
+use Rattle.promise.specs.Hierarchy.{HeadOf, HeadsOf, StepBytes, hierarchy_refusals, hierarchy, LadderOf}
 use Rattle.promise.specs.Hierarchy.{ladder_refusals, ladder}
 use Rattle.promise.proofs.Standing.{first_stands, stood}
 use Rattle.promise.proofs.Calls.{owed_refused, owed_done}

@@ -1,6 +1,6 @@
 -- `hierarchy::rungs::climb` meets its contract.
 -- Assumes nothing.
-use Rattle.std.proofs.Common.{ℕ, arith}
+use Rattle.std.proofs.Common.{ℕ}
 use Rattle.promise.proofs.Ladder.{to_go, rung_falls}
 use Rattle.hierarchy.proofs.Climbing.{Beyond, beyond_none, beyond_next, climbed, not_climbed, next_reached}
 use Rattle.hierarchy.proofs.rungs.+climb.Goals as goal
