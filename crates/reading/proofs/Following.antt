@@ -26,7 +26,7 @@ use Rattle.promise.specs.declared.Kind.{Kind}
 use Rattle.promise.specs.Calls.{no_session, reply, reply_of, Owed}
 use Rattle.promise.specs.Clips.{truth_of}
 use Rattle.promise.specs.Tell.{fresh, tell}
-use Rattle.promise.specs.Book.{length_of, field_refusals, Item, fact_of, GoesOn, Follows, reply_of_read}
+use Rattle.promise.specs.Book.{length_of, field_refusals, Item, fact_of, Follows, reply_of_read}
 use Rattle.promise.proofs.Standing.{stood, first_stands}
 use Rattle.promise.proofs.Fresh.{fresh_stands}
 use Rattle.promise.proofs.Taking.{leaves_keeps}

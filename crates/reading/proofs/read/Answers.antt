@@ -1,6 +1,6 @@
 -- `reading::read` meets its contract: the fields from here on follow all of them.
 -- Assumes nothing.
-use Rattle.std.proofs.Common.{arith, refl, eqb-true, sym, ◌∙◌}
+use Rattle.std.proofs.Common.{arith, refl, eqb-true, sym}
 use Rattle.std.proofs.lemmas.List.{take_rest}
 use Rattle.std.proofs.lemmas.Result.{err_from_is_err_and}
 use Rattle.reading.proofs.Following.{some_number}

@@ -3,7 +3,6 @@
 use Rattle.std.proofs.Common.{arith, refl, ◌+◌}
 use Rattle.std.proofs.lemmas.List.{take_rest}
 use Rattle.std.proofs.lemmas.Result.{err_from_is_err_and}
-use Rattle.reading.specs.Parts.{width_of}
 use Rattle.reading.proofs.Following.{some_number}
 use Rattle.reading.proofs.Advance.{facts_left, refused_here, facts_next, all_followed}
 use Rattle.reading.proofs.fields.Field.follow.Goals as goal

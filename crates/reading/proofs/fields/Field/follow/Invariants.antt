@@ -1,6 +1,6 @@
 -- `reading::fields::Field::follow` meets its contract: the facts from here on follow all of them.
 -- Assumes nothing.
-use Rattle.std.proofs.Common.{◌≡◌, ◌+◌, ◌-◌, length}
+use Rattle.std.proofs.Common.{◌≡◌, ◌+◌, ◌-◌}
 use Rattle.promise.specs.Book.{length_of}
 use Rattle.reading.specs.Parts.{width_of}
 use Rattle.reading.proofs.Advance.{FactsLeft}

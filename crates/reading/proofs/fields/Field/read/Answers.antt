@@ -1,7 +1,6 @@
 -- `reading::fields::Field::read` meets its contract: a class count by fresh, facts one by one.
 -- Assumes nothing.
 use Rattle.std.proofs.lemmas.Result.{err_from_is_err_and}
-use Rattle.reading.specs.Parts.{FieldRight}
 use Rattle.reading.proofs.Following.{field_refused, field_right, count_taken, count_followed, facts_begun, facts_whole, facts_followed}
 use Rattle.reading.proofs.fields.Field.read.Goals as goal
 
