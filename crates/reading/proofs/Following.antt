@@ -14,9 +14,6 @@ use Rattle.std.proofs.Common.{Result, Ok, Err, MatchResult}
 use Rattle.order.specs.Facts.{fact_on}
 use Rattle.promise.specs.Refusals.{First, number_of, standing}
 use Rattle.promise.specs.declared.Refusal.{Refusal}
-use Rattle.promise.specs.declared.Refusal.TheVariants.{BadCount, ShortTable, NotSound, Overcounted, NoSuchClass}
-use Rattle.promise.specs.declared.Refusal.TheVariants.{Contradicted, StillOpen, NoRoom, NoLadder, CutShort, UnknownTag}
-use Rattle.promise.specs.declared.Refusal.TheVariants.{MisplacedTag, BadLength, BadVerdict, TooLong}
 use Rattle.promise.specs.declared.RefusedBook.{RefusedBook}
 use Rattle.promise.specs.declared.Stage.{Stage}
 use Rattle.promise.specs.declared.Stage.TheVariants.{Start, Begun}
@@ -27,6 +24,7 @@ use Rattle.promise.specs.Calls.{no_session, reply, reply_of, Owed}
 use Rattle.promise.specs.Clips.{truth_of}
 use Rattle.promise.specs.Tell.{fresh, tell}
 use Rattle.promise.specs.Book.{length_of, field_refusals, Item, fact_of, Follows, reply_of_read}
+use Rattle.promise.proofs.Answers.{number_positive}
 use Rattle.promise.proofs.Standing.{stood, first_stands}
 use Rattle.promise.proofs.Fresh.{fresh_stands}
 use Rattle.promise.proofs.Taking.{leaves_keeps}
@@ -37,21 +35,7 @@ use Rattle.reading.specs.Parts.{width_of, FieldRight, stands_at, facts_at, said_
 
 -- a refusal's number is not 0
 pub some_number : (why : Refusal) → number_of why ≢ 0
-some_number BadCount = λ e. omega arith
-some_number ShortTable = λ e. omega arith
-some_number NotSound = λ e. omega arith
-some_number Overcounted = λ e. omega arith
-some_number NoSuchClass = λ e. omega arith
-some_number Contradicted = λ e. omega arith
-some_number StillOpen = λ e. omega arith
-some_number NoRoom = λ e. omega arith
-some_number NoLadder = λ e. omega arith
-some_number CutShort = λ e. omega arith
-some_number UnknownTag = λ e. omega arith
-some_number MisplacedTag = λ e. omega arith
-some_number BadLength = λ e. omega arith
-some_number BadVerdict = λ e. omega arith
-some_number TooLong = λ e. omega arith
+some_number why = λ e. omega (arith, number_positive why)
 
 -- a reply that a refusal gave has no number 0
 refused_not : {k p : ℕ} {s : Session} {r : Reply} → k ≢ 0 → r ≡ reply k p s → r.number ≡ 0 → ⊥

@@ -70,7 +70,7 @@ impl<'b> Field<'b> {
     fn follow(
         &self,
         facts: Facts,
-        session: Session,
+        mut session: Session,
         table: &mut [u8],
     ) -> Result<Session, RefusedBook>
         requires whole { length_of self.now.bytes.now % width_of facts ≡ 0 }
@@ -80,7 +80,6 @@ impl<'b> Field<'b> {
             (facts_at facts (length_of self.now.bytes.now) (self.now.place + 3) (drop 3 self.now.bytes.now))
             session table.old (reply_of_read result) table.new }
     {
-        let mut session = session;
         for at in (3..3 + self.length()).step_by(facts.width()) {
             session = fact(facts, self.place + at, &self.bytes[at..], session, table)?;
         }

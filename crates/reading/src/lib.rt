@@ -24,6 +24,7 @@ pub fn read(book: &[u8], table: &mut [u8]) -> Result<Session, RefusedBook>
     let mut session = NO_SESSION;
     let mut stage = Stage::Start;
     let mut at = 0;
+    // Each head says where the next field begins, so no range gives the places beforehand.
     while at < book.len() {
         let field = Field {
             place: at,
