@@ -1,12 +1,12 @@
 -- The fields that are placed make the book, and what each way out of write owes.
 -- Assumes nothing.
-use Rattle.std.proofs.Common.{◌≡◌, refl, sym, ◌∙◌, ap, ap₂, inl, inr, List, [], ◌∷◌, ◌++◌, ℕ, ◌+◌, ◌*◌, ◌/◌, ◌%◌, ◌≤◌, ◌<◌, arith, length, Err}
+use Rattle.std.proofs.Common.{◌≡◌, refl, sym, ap, inl, inr, List, [], ◌∷◌, ◌++◌, ℕ, ◌+◌, ◌*◌, ◌/◌, ◌%◌, ◌<◌, arith, length, Err}
 use Rattle.order.specs.Tables.{Pair, bytes_of}
 use Rattle.order.proofs.Pairs.{lists_unique, length_bytes}
 use Rattle.promise.specs.declared.Refusal.{Refusal}
 use Rattle.promise.specs.declared.Session.{Session}
 use Rattle.promise.specs.Refusals.{First, standing, number_of}
-use Rattle.promise.specs.Calls.{Counted, Owed, count_of}
+use Rattle.promise.specs.Calls.{Counted, Owed, TooShort, count_of}
 use Rattle.promise.specs.Calls.Counted.{Count, Refused}
 use Rattle.promise.specs.Book.{field, PairsMarked, BookOf, write_refusals, write}
 use Rattle.promise.proofs.Answers.{number_positive}
@@ -18,7 +18,7 @@ use Rattle.buffers.specs.Placed.{Put}
 use Rattle.buffers.proofs.Placing.{put_then, put_before}
 use Rattle.buffers.proofs.Parts.{part, replaced, part_length, part_placed}
 use Rattle.standing.proofs.Left.{left_owed}
-use Rattle.book.specs.Fields.{PairsNoted, FieldFits, FieldPut, BookFits, BookPut, write_left}
+use Rattle.book.specs.Fields.{PairsNoted, FieldFits, FieldPut, BookPut, write_left}
 
 -- the pairs with one mark are always as many
 same_length :
@@ -43,16 +43,11 @@ field_put {out = out} {at = at} {u = u} {count = count} fits h head =
     in
     record { pairs = h.pairs; listed = h.listed; put = put_before contents (rw (head.ends, size) at head) }
 
--- behind the field with the yes pairs there is room for that with the no pairs
-pub no_fits :
-    {n : ℕ} {t out out₁ out₂ : List ℕ} {at behind : ℕ} → BookFits n t out → FieldPut n t 2 1 out₁ at behind out₂
-    → at ≤ 4 → length out₂ ≡ length out → FieldFits n t 2 out₂ behind
-no_fits fits h front e =
-    record {
-      pairs = fits.no_pairs;
-      listed = fits.no_listed;
-      room = omega (arith, h.put.ends, length_bytes h.pairs, same_length _ h.listed fits.yes_listed);
-    }
+-- a field ends behind its head and two bytes for each pair
+pub field_end :
+    {n : ℕ} {t : List ℕ} {tag m : ℕ} {out : List ℕ} {at behind : ℕ} {out' : List ℕ} {l : List Pair}
+    → FieldPut n t tag m out at behind out' → PairsMarked n t m l → behind ≡ at + 3 + 2 * length l
+field_end {t = t} h listed = omega (arith, h.put.ends, length_bytes h.pairs, same_length t h.listed listed)
 
 -- the three fields are the book
 abbrev book_of :
@@ -85,12 +80,10 @@ module _ {n : ℕ} {t out : List ℕ} where
 
   pub book_done : {size : ℕ} {out' : List ℕ} → BookPut n t out size out' → Owed (write_left n t out) (Count size, out')
   book_done {size = size₀} h =
-      owed_done (write_left n t out)
-      (inr (λ z. omega (arith, z.2, h.put.fits, size, ap (λ (w : List ℕ). length w) (book_unique z.0 h.book z.1 h.is)), refl)) refl
-      (h.book, h.is, rw (h.put.placed.bytes, size) refl)
-    where
-      size : size₀ ≡ length h.book
-      size = omega (arith, h.put.ends)
+      let size : size₀ ≡ length h.book = omega (arith, h.put.ends) in
+      let fits : ¬ TooShort (BookOf n t) out =
+      λ z. omega (arith, z.2, h.put.fits, size, ap (λ (w : List ℕ). length w) (book_unique z.0 h.book z.1 h.is)) in
+      owed_done (write_left n t out) (inr (fits, refl)) refl (h.book, h.is, rw (h.put.placed.bytes, size))
 
 module _ (s : Session) (t out : List ℕ) where
   pub write_refused : (why : Refusal) → First (standing s t []) (number_of why) → Owed (write s t out) (count_of (Err why), out)

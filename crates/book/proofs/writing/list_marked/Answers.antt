@@ -1,12 +1,10 @@
 -- `book::writing::list_marked` meets its contract: the pairs passed that have the mark are noted.
 -- Assumes nothing.
-use mathlib.Core.Path.{sym, ◌∙◌}
-use mathlib.Core.Bool.{false≢true}
-use native.Mathlib.Omega.{arith}
-use Prim.Native.Nat.{◌<◌}
+use Rattle.std.proofs.Common.{◌<◌, arith}
 use Rattle.buffers.proofs.Noting.{so_far_none, few, hit, miss, row_end, all_few, all_noted}
 use Rattle.book.proofs.writing.list_marked.Goals as goal
-use Rattle.book.proofs.writing.list_marked.Goals.{then-a-b+then-is, else-a-b, else-a-b-via-then-a-b+else-is, else-a-b-via-else-a-b, In-loop-b}
+use Rattle.book.proofs.writing.list_marked.Goals.{In-loop-b, then-a-b+then-is, else-a-b}
+use Rattle.book.proofs.writing.list_marked.Goals.{else-a-b-via-then-a-b+else-is, else-a-b-via-else-a-b}
 
 -- the pairs noted so far are few
 so_few : (c : In-loop-b) → c.loop-b.count < 16384
@@ -19,9 +17,11 @@ pub overflow_mul-count : goal.overflow_mul-count
 overflow_mul-count c = omega (arith, so_few (goal.at.overflow_mul-count c).In-loop-b)
 
 pub put_pair-requires : goal.put_pair-requires
-put_pair-requires c =
-    let h = few c.loop-b.invariant c.args.marks.now.shape.few (omega arith) (omega arith) in
-    (omega arith, omega (arith, c.args.marks.now.shape.few), omega (arith, c.args.marks.now.shape.few))
+put_pair-requires c = (
+  omega (arith, so_few (goal.at.put_pair-requires c).In-loop-b),
+  omega (arith, c.args.marks.now.shape.few),
+  omega (arith, c.args.marks.now.shape.few),
+)
 
 pub overflow_add-count : goal.overflow_add-count
 overflow_add-count c = omega (arith, so_few (goal.at.overflow_add-count c).In-loop-b)
@@ -37,7 +37,7 @@ loop-b-preserved c =
           rw (w.out-is, w.count-is)
           (miss c.loop-b.invariant (λ p.
           elim w.else-a-b.branch [
-            | else-a-b-via-then-a-b+else-is v ↦ false≢true (sym v.if-is.false ∙ v.is.ensures.1 p.1)
+            | else-a-b-via-then-a-b+else-is v ↦ cc (v.is.ensures.1 p.1)
             | else-a-b-via-else-a-b v ↦ p.0 v.if-a-b.false
           ]))
     ]
