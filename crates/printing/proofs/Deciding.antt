@@ -1,12 +1,6 @@
 -- Whether the input is too long: exactly where a byte came behind the full buffer.
 -- Assumes nothing.
-use mathlib.Core.Path.{◌≡◌, refl}
-use mathlib.Core.Logic.{inl, inr}
-use mathlib.Core.List.{List}
-use Prim.Native.Nat.{ℕ, ◌<◌}
-use native.Mathlib.Omega.{arith}
-use lib.ListN.{length, take}
-use lib.Seq.{length-take-le}
+use Rattle.std.proofs.Common.{◌≡◌, ℕ, ◌<◌, List, length, take, inl, inr, refl, arith, length-take-le}
 use Rattle.buffers.specs.Placed.{Put}
 use Rattle.lines.specs.Lines.{refusal_line}
 use Rattle.printing.specs.Answers.{Answered, Input, Decided}

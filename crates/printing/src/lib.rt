@@ -7,7 +7,7 @@ mod input;
 ghost use Rattle.printing.specs.Answers.{Room, Answered, Input, Decided};
 
 use dawnhangra::read;
-use input::gather;
+use input::{Gathered, gather};
 use lines::{MOST_INPUT, report, report_too_long};
 use std::io;
 use std::io::{Read, Write};
@@ -23,9 +23,9 @@ fn answer(
     requires { Room table.old heads.old steps.old text.old }
     ensures { Answered book.now table.old text.old result text.new }
 {
-    let reply = read(book, &mut *table);
-    let marks = reply.session.classes * reply.session.classes;
-    report(reply, &table[..marks], heads, steps, text)
+    let read = read(book, table);
+    let classes = read.map_or(0, |session| session.classes);
+    report(read, &table[..classes * classes], heads, steps, text)
 }
 
 // What is written of the input: the line of 15 where more came than the buffer holds, and what there is to say of the
@@ -33,21 +33,19 @@ fn answer(
 #[tactic(auto, using(crate::proofs::Deciding::more_decided, crate::proofs::Deciding::whole_decided))]
 fn decide(
     input: &[u8],
-    count: usize,
-    behind: usize,
+    came: Gathered,
     table: &mut [u8],
     heads: &mut [u8],
     steps: &mut [u8],
     text: &mut [u8],
 ) -> usize
-    requires { Input input.now count behind × Room table.old heads.old steps.old text.old }
-    ensures { Decided input.now count behind table.old text.old result
-        text.new }
+    requires { Input input.now came.count came.behind × Room table.old heads.old steps.old text.old }
+    ensures { Decided input.now came.count came.behind table.old text.old result text.new }
 {
-    if behind > 0 {
+    if came.behind > 0 {
         return report_too_long(text);
     }
-    answer(&input[..count], table, heads, steps, text)
+    answer(&input[..came.count], table, heads, steps, text)
 }
 
 // A read that fails is no verdict: it is said among the errors alone.
@@ -67,18 +65,9 @@ pub fn print_input<R: Read, W: Write, E: Write>(
     let mut heads: [u8; 128] = [0; 128];
     let mut steps: [u8; 8192] = [0; 8192];
     let mut text: [u8; 65536] = [0; 65536];
-    let gathered = gather(reader, &mut input);
-    if gathered.failed {
+    let Ok(came) = gather(reader, &mut input) else {
         return complain(errors);
-    }
-    let size = decide(
-        &input,
-        gathered.count,
-        gathered.behind,
-        &mut table,
-        &mut heads,
-        &mut steps,
-        &mut text,
-    );
+    };
+    let size = decide(&input, came, &mut table, &mut heads, &mut steps, &mut text);
     writer.write_all(&text[..size])
 }
