@@ -1,174 +1,194 @@
-// The calls: what each draws, and what is kept after it.
-ghost use Rattle.sweep.specs.Few.{Few};
+// The calls: what each draws, the call itself on the bytes that are lent to it, its line, and what is kept after it.
+ghost use Rattle.std.specs.Prelude.{◌<◌, ◌≤◌};
 
-use crate::draw::{Fact, draw, draw_fact, draw_lent, draw_rooms, draw_rungs, draw_verdict, square};
-use crate::flags::draw_clip;
-use crate::kept::{Kept, Sizes, within};
-use crate::lent;
-use crate::show::Out;
-use crate::trouble::{no_trouble, put_back, settle};
-use std::io;
+use crate::draws::Fact;
+use crate::given::{Given, Sizes, untested};
+use crate::shown::{Counted, Digest, Next, Replied};
+use crate::sweep::{BOOK, Sweep};
+use promise::{Asked, Clip, MOST_CLASSES, Refusal, RefusedBook, Session};
+use std::{array, io};
 
-// fresh, tell or answer, by its letter. fresh takes no heed of the fact.
-fn change(out: &mut Out, letter: u8, mut kept: Kept, fact: Fact) -> io::Result<Kept> {
-    let given = kept.given;
-    let session = given.session;
-    let mut table = kept.table;
-    let reply = lent::change(out, letter, session, given.lent, fact, &mut table)?;
-    kept.table = table;
-    let after = reply.session;
-    Ok(settle(kept, reply.number, after))
-}
-
-pub fn fresh(out: &mut Out, kept: Kept) -> io::Result<Kept> {
-    let none = Fact {
-        lower: 0,
-        upper: 0,
-        holds: false,
-    };
-    change(out, b'F', kept, none)
-}
-
-// With a fact that is drawn.
-pub fn tell_or_answer(out: &mut Out, letter: u8, sizes: Sizes, mut kept: Kept) -> io::Result<Kept>
-    requires { Few sizes.n }
-{
-    let fact = draw_fact(&mut kept.state, sizes.n);
-    change(out, letter, kept, fact)
-}
-
-// That one class is under another.
-pub fn tell_under(out: &mut Out, lower: usize, upper: usize, kept: Kept) -> io::Result<Kept> {
-    let fact = Fact {
-        lower: lower,
-        upper: upper,
-        holds: true,
-    };
-    change(out, b'T', kept, fact)
-}
-
-// With flags that are drawn.
-pub fn clip(out: &mut Out, sizes: Sizes, mut kept: Kept) -> io::Result<Kept>
-    requires { Few sizes.n }
-{
-    let given = kept.given;
-    let session = given.session;
-    let mut table = kept.table;
-    let drawn = draw_clip(&mut kept.state, &table, sizes.n);
-    let reply = lent::clip(out, session, given.lent, drawn, &mut table)?;
-    kept.table = table;
-    let after = reply.session;
-    Ok(settle(kept, reply.number, after))
-}
-
-// Without trouble, on the pair that next asks.
-fn answer(
-    out: &mut Out,
-    sizes: Sizes,
-    mut kept: Kept,
-    lower: usize,
-    upper: usize,
-) -> io::Result<Kept> {
-    let holds = draw_verdict(&mut kept.state);
-    let fact = Fact {
-        lower: lower,
-        upper: upper,
-        holds: holds,
-    };
-    change(out, b'A', no_trouble(sizes, kept), fact)
-}
-
-// next, and answer if it asks.
-pub fn next(out: &mut Out, sizes: Sizes, mut kept: Kept) -> io::Result<Kept> {
-    let given = kept.given;
-    let session = given.session;
-    let asked = lent::next(out, session, given.lent, &kept.table)?;
-    kept.asks = asked.asks;
-    let settled = settle(kept, asked.number, session);
-    if asked.asks {
-        return answer(out, sizes, settled, asked.lower, asked.upper);
+impl Sweep {
+    // A call that may change the table. Gives whether it was accepted.
+    fn change<F: FnOnce(Session, &mut [u8]) -> Result<Session, Refusal>>(
+        &mut self,
+        letter: char,
+        given: Given,
+        call: F,
+    ) -> io::Result<bool>
+        requires { F.IsAlwaysCallable call }
+    {
+        let session = given.session;
+        let left = call(session, &mut self.table[..given.lent]);
+        let replied = Replied(left.map_err(|why| RefusedBook {
+            why,
+            place: 0,
+            session,
+        }));
+        println!(self.out; "{letter} {replied} {}", Digest(&self.table[..given.lent]))?;
+        self.settle(given, left);
+        Ok(left.is_ok())
     }
-    Ok(settled)
-}
 
-pub fn open_pairs(out: &mut Out, kept: Kept) -> io::Result<Kept> {
-    let given = kept.given;
-    let session = given.session;
-    let counted = lent::open_pairs(out, session, given.lent, &kept.table)?;
-    Ok(settle(kept, counted.number, session))
-}
-
-pub fn hierarchy(out: &mut Out, sizes: Sizes, mut kept: Kept) -> io::Result<Kept>
-    requires { Few sizes.n }
-{
-    let rooms = draw_rooms(&mut kept.state, sizes.n);
-    let given = kept.given;
-    let session = given.session;
-    let mut heads = kept.heads;
-    let mut steps = kept.steps;
-    let counted = lent::hierarchy(
-        out,
-        session,
-        given.lent,
-        &kept.table,
-        rooms,
-        &mut heads,
-        &mut steps,
-    )?;
-    kept.heads = heads;
-    kept.steps = steps;
-    Ok(settle(kept, counted.number, session))
-}
-
-pub fn ladder(out: &mut Out, sizes: Sizes, mut kept: Kept) -> io::Result<Kept>
-    requires { Few sizes.n }
-{
-    let rungs = draw_rungs(&mut kept.state, sizes.n);
-    let given = kept.given;
-    let session = given.session;
-    let mut heads = kept.heads;
-    let counted = lent::ladder(out, session, given.lent, &kept.table, rungs, &mut heads)?;
-    kept.heads = heads;
-    Ok(settle(kept, counted.number, session))
-}
-
-pub fn write(out: &mut Out, sizes: Sizes, mut kept: Kept) -> io::Result<Kept>
-    requires { Few sizes.n }
-{
-    let longest = 10 + 2 * square(sizes.n);
-    let room = draw_lent(&mut kept.state, longest, longest, 0);
-    let given = kept.given;
-    let session = given.session;
-    let mut book = kept.book;
-    let counted = lent::write(out, session, given.lent, &kept.table, room, &mut book)?;
-    kept.book = book;
-    if counted.number == 0 {
-        kept.length = counted.count;
+    // fresh is given a class count alone, and gives no session back where it is refused. Gives whether it was accepted.
+    pub fn fresh(&mut self, mut given: Given) -> io::Result<bool> {
+        let classes = given.session.classes;
+        given.session = untested(0);
+        self.change('F', given, |_, table| dawnhangra::fresh(classes, table))
     }
-    Ok(settle(kept, counted.number, session))
-}
 
-// How many bytes of the book last written are lent. Now and then one of them changes first.
-fn draw_part(state: &mut usize, written: usize, book: &mut [u8]) -> usize {
-    let length = within(written, &*book);
-    let d = draw(&mut *state, 4);
-    if d == 1 {
-        return draw(&mut *state, length + 1);
+    pub fn tell(&mut self, given: Given, fact: Fact) -> io::Result<()> {
+        let Fact {
+            lower,
+            upper,
+            holds,
+        } = fact;
+        self.change('T', given, |session, table| {
+            dawnhangra::tell(session, table, lower, upper, holds)
+        })?;
+        Ok(())
     }
-    if d == 0 && length > 0 {
-        let place = draw(&mut *state, length);
-        book[place] = draw(&mut *state, 6) as u8;
-    }
-    length
-}
 
-pub fn read(out: &mut Out, sizes: Sizes, mut kept: Kept) -> io::Result<Kept> {
-    let length = kept.length;
-    let mut book = kept.book;
-    let mut spare = kept.spare;
-    let part = draw_part(&mut kept.state, length, &mut book);
-    lent::read(out, part, &book, sizes.lent, &mut spare)?;
-    kept.book = book;
-    kept.spare = spare;
-    Ok(put_back(kept))
+    pub fn answer(&mut self, given: Given, fact: Fact) -> io::Result<()> {
+        let Fact {
+            lower,
+            upper,
+            holds,
+        } = fact;
+        self.change('A', given, |session, table| {
+            dawnhangra::answer(session, table, lower, upper, holds)
+        })?;
+        Ok(())
+    }
+
+    pub fn clip(&mut self, given: Given, sizes: Sizes) -> io::Result<()> {
+        let clip = self.draw_clip(sizes.classes);
+        self.change(
+            'C',
+            given,
+            |session, table| dawnhangra::clip(session, table, clip),
+        )?;
+        Ok(())
+    }
+
+    // Now and then any set of classes, otherwise those that a row of the table has a yes for; and now and then one class
+    // more that there is not.
+    fn draw_clip(&mut self, classes: usize) -> Clip
+        requires { (0 < classes) × (classes ≤ 128) }
+    {
+        let mut played = if self.draws.below(4) == 0 {
+            array::from_fn(|class| class < classes && self.draws.verdict())
+        } else {
+            let start = self.draws.below(classes) * classes;
+            let row = &self.table[start..start + classes];
+            array::from_fn(|class| row.get(class) == Some(&1))
+        };
+        if classes < MOST_CLASSES && self.draws.below(8) == 0 {
+            played[classes + self.draws.below(MOST_CLASSES - classes)] = true;
+        }
+        Clip { played }
+    }
+
+    // Gives whether next asked: the pair is answered then, without trouble.
+    pub fn next(&mut self, given: Given, sizes: Sizes) -> io::Result<bool> {
+        let lent = &self.table[..given.lent];
+        let next = dawnhangra::next(given.session, lent);
+        println!(self.out; "N {} {}", Next(next), Digest(lent))?;
+        self.settle(given, next.map(|_| given.session));
+        let Ok(Some(Asked { lower, upper })) = next else {
+            return Ok(false);
+        };
+        let holds = self.draws.verdict();
+        self.answer(
+            self.untroubled(sizes),
+            Fact {
+                lower,
+                upper,
+                holds,
+            },
+        )?;
+        Ok(true)
+    }
+
+    pub fn open_pairs(&mut self, given: Given) -> io::Result<()> {
+        let lent = &self.table[..given.lent];
+        let counted = dawnhangra::open_pairs(given.session, lent);
+        println!(self.out; "O {} {}", Counted(counted), Digest(lent))?;
+        self.settle(given, counted.map(|_| given.session));
+        Ok(())
+    }
+
+    pub fn hierarchy(&mut self, given: Given, sizes: Sizes) -> io::Result<()> {
+        let n = sizes.classes;
+        let heads = self
+            .draws
+            .few(n + 1)
+            .unwrap_or_else(|| n + self.draws.below(3));
+        let steps = self.draws.few(2 * n).unwrap_or(2 * sizes.marks());
+        let lent = &self.table[..given.lent];
+        let heads = &mut self.heads.as_mut_slice()[..heads];
+        let steps = &mut self.steps.as_mut_slice()[..steps];
+        let counted = dawnhangra::hierarchy(given.session, lent, heads, steps);
+        println!(self.out;
+            "H {} {} {} {}",
+            Counted(counted),
+            Digest(lent),
+            Digest(heads),
+            Digest(steps)
+        )?;
+        self.settle(given, counted.map(|_| given.session));
+        Ok(())
+    }
+
+    pub fn ladder(&mut self, given: Given, sizes: Sizes) -> io::Result<()> {
+        let n = sizes.classes;
+        let (lower, upper) = self.draws.pair(n);
+        let rungs = self.draws.few(3).unwrap_or_else(|| n + self.draws.below(2));
+        let lent = &self.table[..given.lent];
+        let rungs = &mut self.heads.as_mut_slice()[..rungs];
+        let counted = dawnhangra::ladder(given.session, lent, lower, upper, rungs);
+        println!(self.out; "L {} {} {}", Counted(counted), Digest(lent), Digest(rungs))?;
+        self.settle(given, counted.map(|_| given.session));
+        Ok(())
+    }
+
+    pub fn write(&mut self, given: Given, sizes: Sizes) -> io::Result<()> {
+        let longest = 10 + 2 * sizes.marks();
+        let room = self.draws.few(longest).unwrap_or(longest);
+        let lent = &self.table[..given.lent];
+        let book = &mut self.book.as_mut_slice()[..room];
+        let counted = dawnhangra::write(given.session, lent, book);
+        println!(self.out; "W {} {} {}", Counted(counted), Digest(lent), Digest(book))?;
+        self.written = counted.unwrap_or(self.written);
+        self.settle(given, counted.map(|_| given.session));
+        Ok(())
+    }
+
+    // How many bytes of the book last written are lent. Now and then one of them changes first.
+    fn draw_part(&mut self) -> usize
+        ensures { result ≤ 32778 }
+    {
+        let written = self.written.min(BOOK);
+        match self.draws.below(4) {
+            0 if written > 0 => {
+                let place = self.draws.below(written);
+                self.book[place] = self.draws.below(6) as u8;
+                written
+            }
+            1 => self.draws.below(written + 1),
+            _ => written,
+        }
+    }
+
+    // A book is read onto spare: no trouble with the table lasts.
+    pub fn read(&mut self, given: Given, sizes: Sizes) -> io::Result<()> {
+        let part = self.draw_part();
+        let book = &self.book[..part];
+        let spare = &mut self.spare[..];
+        let spare = &mut spare[..sizes.lent];
+        let replied = dawnhangra::read(book, spare);
+        println!(self.out; "R {} {} {}", Replied(replied), Digest(spare), Digest(book))?;
+        self.put_back(given);
+        Ok(())
+    }
 }

@@ -1,0 +1,59 @@
+// What calls give, as the numbers of their lines. The first two are the refusal number and its place, both 0 where the
+// call is accepted, and the place is 0 outside books.
+use promise::{Asked, Refusal, RefusedBook, Session};
+use std::fmt;
+
+// What a call that gives a session replied.
+#[derive(Clone, Copy)]
+pub struct Replied(pub Result<Session, RefusedBook>);
+
+impl fmt::Display for Replied {
+    fn fmt<W: fmt::Write>(&self, f: &mut fmt::Formatter<W>) -> fmt::Result {
+        let (number, place, session) = match self.0 {
+            Ok(session) => (0, 0, session),
+            Err(refused) => (refused.why as u8, refused.place, refused.session),
+        };
+        let Session { classes, tests } = session;
+        write!(f, "{number} {place} {classes} {tests}")
+    }
+}
+
+// What a call that counts gave. The count is 0 where the call is refused.
+#[derive(Clone, Copy)]
+pub struct Counted(pub Result<usize, Refusal>);
+
+impl fmt::Display for Counted {
+    fn fmt<W: fmt::Write>(&self, f: &mut fmt::Formatter<W>) -> fmt::Result {
+        match self.0 {
+            Ok(count) => write!(f, "0 0 {count}"),
+            Err(why) => write!(f, "{} 0 0", why as u8),
+        }
+    }
+}
+
+// What next gave.
+#[derive(Clone, Copy)]
+pub struct Next(pub Result<Option<Asked>, Refusal>);
+
+impl fmt::Display for Next {
+    fn fmt<W: fmt::Write>(&self, f: &mut fmt::Formatter<W>) -> fmt::Result {
+        match self.0 {
+            Ok(Some(Asked { lower, upper })) => write!(f, "0 0 {lower} {upper}"),
+            Ok(None) => write!(f, "0 0"),
+            Err(why) => write!(f, "{} 0", why as u8),
+        }
+    }
+}
+
+// The digest of the bytes that were lent.
+#[derive(Clone, Copy)]
+pub struct Digest<'a>(pub &'a [u8]);
+
+impl fmt::Display for Digest<'_> {
+    fn fmt<W: fmt::Write>(&self, f: &mut fmt::Formatter<W>) -> fmt::Result {
+        let digest = self.0.iter().fold(7, |digest: u32, byte| {
+            ((u64::from(digest) * 31 + u64::from(*byte) + 1) % 2147483647) as u32
+        });
+        write!(f, "{digest}")
+    }
+}
