@@ -68,11 +68,7 @@ impl<'a> Marks<'a> {
             × (mark self.now.classes self.now.bytes.now a b ≤ 2) }
         ensures { mark self.now.classes self.now.bytes.now a b ≡ byte_of result }
     {
-        match self.at(a, b) {
-            0 => Mark::Open,
-            1 => Mark::Yes,
-            _ => Mark::No,
-        }
+        Mark::try_from(self.at(a, b)).unwrap()
     }
 
     // How many pairs are open. They are added up without a branch, so that the compiler makes vector code of it.

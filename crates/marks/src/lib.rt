@@ -5,6 +5,9 @@
 mod fresh;
 mod lent;
 
+ghost use Rattle.std.specs.Prelude.{◌≡◌, ◌<◌, MatchResult};
+ghost use Rattle.marks.specs.Bytes.{byte_of};
+
 pub use fresh::{fresh_marks, index};
 pub use lent::Marks;
 
@@ -14,4 +17,20 @@ pub enum Mark {
     Open = 0,
     Yes = 1,
     No = 2,
+}
+
+// The mark that a byte is, or the byte where it is none.
+impl TryFrom<u8> for Mark {
+    type Error = u8;
+
+    ghost try_from_gives = { λ byte result. MatchResult result (λ mark. byte_of mark ≡ byte) (λ none. (none ≡ byte) × (2 < byte)) };
+
+    fn try_from(byte: u8) -> Result<Mark, u8> {
+        match byte {
+            0 => Ok(Mark::Open),
+            1 => Ok(Mark::Yes),
+            2 => Ok(Mark::No),
+            none => Err(none),
+        }
+    }
 }
