@@ -13,6 +13,7 @@ pub fn fill<R: Read>(reader: &mut R, buffer: &mut [u8]) -> io::Result<usize>
         (λ count. Consumes (R.remaining reader.old) (R.remaining reader.new) (take count buffer.new)) }
     ensures ended { IfOk result (λ count. count < length buffer.new → IsAtEnd (R.remaining reader.new)) }
 {
+    // A read gives as many bytes as it likes, and `read_exact` does not say how many came before an end.
     let mut count: usize = 0;
     while count < buffer.len() {
         match reader.read(&mut buffer[count..])? {

@@ -20,6 +20,7 @@ pub fn put_number(out: &mut [u8], at: usize, number: usize) -> usize
 {
     let behind = at + count_digits(number);
     let mut rest = number;
+    // A proof knows nothing of what a loop over `iter_mut().rev()` has written.
     for left in (at..behind).rev() {
         out[left] = b'0' + (rest % 10) as u8;
         rest /= 10;

@@ -19,6 +19,7 @@ pub fn fresh_marks(n: usize, table: &mut [u8])
     ensures { MadeFresh n table.old table.new }
 {
     table[..n * n].fill(Mark::Open as u8);
+    // A step of n + 1 bytes would say less plainly which pairs these are.
     for a in 0..n {
         table[index(n, a, a)] = Mark::Yes as u8;
     }

@@ -7,7 +7,7 @@ ghost use Rattle.passes.specs.Spread.{FlagsOf};
 use marks::{Mark, Marks};
 use promise::MOST_CLASSES;
 
-// The classes below n that pass a test.
+// The classes below n that pass a test. `array::from_fn` over all 128 took two to ten times as long.
 fn flags_of<F: Fn(usize) -> bool>(n: usize, test: F) -> [bool; MOST_CLASSES]
     requires few { n ≤ 128 }
     requires callable { (x : ℕ) → x < n → F.pre test x }

@@ -1,4 +1,6 @@
-// A fact on an open pair of a sound table is taken in, in place, by passes over the pairs of two lines.
+// A fact on an open pair of a sound table is taken in, in place, by passes over the pairs of two lines. What is written
+// to is a class count and bytes, and no struct as `Marks`: what one with a `&mut` leaves in the bytes is not known to a
+// proof where it ends.
 #![tactic(auto)]
 
 mod flags;
@@ -16,7 +18,7 @@ use marks::{Mark, Marks};
 use promise::MOST_CLASSES;
 
 // Each flagged byte of a row becomes v. Each byte is stored, changed or not, since a loop without branches becomes vector
-// code.
+// code. The flag is read by its index: a proof knows no element that a loop over `iter_mut().zip(ys)` has written.
 fn mark_row(row: &mut [u8], ys: &[bool; MOST_CLASSES], v: Mark)
     requires { length row.old ≤ 128 }
     ensures { RowMarked ys.now v row.old row.new }
@@ -38,6 +40,7 @@ pub fn spread(
     ensures { Spread n (λ a b. Flagged xs.now a × Flagged ys.now b) (byte_of v)
         table.old table.new }
 {
+    // The same holds of rows by `chunks_exact_mut`.
     for x in 0..n {
         if xs[x] {
             let start = x * n;

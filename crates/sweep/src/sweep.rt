@@ -14,7 +14,8 @@ const STEPS: usize = 32768;
 
 pub const BOOK: usize = 32778;
 
-// Where the lines go, the state of the draws, the session, the five buffers, and how much of the book was last written.
+// Where the lines go, the state of the draws, the session, the five buffers, and how much of the book was last written:
+// it is lent in part, and a `Vec` would be on the heap.
 #[derive(Drop)]
 pub struct Sweep {
     pub out: Stdout,

@@ -4,7 +4,7 @@ ghost use Rattle.std.specs.Prelude.{◌≤◌, length};
 // The most numbers that a line has.
 const MOST: usize = 32;
 
-// The numbers of a line, each below 256, as far as there is room.
+// The numbers of a line, each below 256, as far as there is room: a `Vec` would be on the heap.
 #[derive(Clone, Copy)]
 pub struct Numbers {
     given: [u8; MOST],
