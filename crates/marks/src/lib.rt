@@ -5,8 +5,7 @@
 mod fresh;
 mod lent;
 
-ghost use Rattle.std.specs.Prelude.{◌≡◌, ◌<◌, MatchResult};
-ghost use Rattle.marks.specs.Bytes.{byte_of};
+ghost use Rattle.marks.specs.Bytes.{Decodes};
 
 pub use fresh::{fresh_marks, index};
 pub use lent::Marks;
@@ -23,7 +22,7 @@ pub enum Mark {
 impl TryFrom<u8> for Mark {
     type Error = u8;
 
-    ghost try_from_gives = { λ byte result. MatchResult result (λ mark. byte_of mark ≡ byte) (λ none. (none ≡ byte) × (2 < byte)) };
+    ghost try_from_gives = { Decodes };
 
     fn try_from(byte: u8) -> Result<Mark, u8> {
         match byte {

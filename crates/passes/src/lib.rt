@@ -17,8 +17,9 @@ use flags::{column_flags, row_flags};
 use marks::{Mark, Marks};
 use promise::MOST_CLASSES;
 
-// Each flagged byte of a row becomes v. Each byte is stored, changed or not, since a loop without branches becomes vector
-// code. The flag is read by its index: a proof knows no element that a loop over `iter_mut().zip(ys)` has written.
+// Each flagged byte of a row becomes v. Each byte is stored, changed or not, since a loop without branches becomes
+// vector code. The flag is read by its index: a proof knows no element that a loop over `iter_mut().zip(ys)` has
+// written.
 fn mark_row(row: &mut [u8], ys: &[bool; MOST_CLASSES], v: Mark)
     requires { length row.old ≤ 128 }
     ensures { RowMarked ys.now v row.old row.new }

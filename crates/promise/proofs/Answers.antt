@@ -1,5 +1,5 @@
--- Two answers of the code that stand for one are one, so that what a call gives is as fixed as its outcome: `*_unique` of
--- an outcome and `*_fixed` here leave one value.
+-- Two answers of the code that stand for one are one, so that what a call gives is as fixed as its outcome: `*_unique`
+-- of an outcome and `*_fixed` here leave one value.
 -- Assumes nothing.
 use mathlib.Core.Path.{◌≡◌, refl, sym, ap, ap₂, ◌∙◌}
 use mathlib.Core.Bool.{true, false, false≢true}

@@ -62,7 +62,8 @@ next s t =
 abbrev pub question_for : Question → CrossedQuestion
 question_for (Question.Ask a b) = record { number = 0; place = 0; asks = true; lower = a; upper = b }
 question_for Question.Done = record { number = 0; place = 0; asks = false; lower = 0; upper = 0 }
-question_for (Question.Refused number place) = record { number = number; place = place; asks = false; lower = 0; upper = 0 }
+question_for (Question.Refused number place) =
+    record { number = number; place = place; asks = false; lower = 0; upper = 0 }
 
 abbrev pub next_for_c : Session → List ℕ → Call CrossedQuestion
 next_for_c s t = crossing question_for (λ q. q.number) (next s t)
