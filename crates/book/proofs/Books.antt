@@ -1,6 +1,7 @@
 -- The fields that are placed make the book, and what each way out of write owes.
 -- Assumes nothing.
-use Rattle.std.proofs.Common.{◌≡◌, refl, sym, ap, inl, inr, List, [], ◌∷◌, ◌++◌, ℕ, ◌+◌, ◌*◌, ◌/◌, ◌%◌, ◌<◌, arith, length, Err}
+use Rattle.std.proofs.Common.{◌≡◌, refl, sym, ap, inl, inr, List, [], ◌∷◌, ◌++◌, length, Err}
+use Rattle.std.proofs.Common.{ℕ, ◌+◌, ◌*◌, ◌/◌, ◌%◌, ◌<◌, arith}
 use Rattle.order.specs.Tables.{Pair, bytes_of}
 use Rattle.order.proofs.Pairs.{lists_unique, length_bytes}
 use Rattle.promise.specs.declared.Refusal.{Refusal}
@@ -86,7 +87,8 @@ module _ {n : ℕ} {t out : List ℕ} where
       owed_done (write_left n t out) (inr (fits, refl)) refl (h.book, h.is, rw (h.put.placed.bytes, size))
 
 module _ (s : Session) (t out : List ℕ) where
-  pub write_refused : (why : Refusal) → First (standing s t []) (number_of why) → Owed (write s t out) (count_of (Err why), out)
+  pub write_refused :
+      (why : Refusal) → First (standing s t []) (number_of why) → Owed (write s t out) (count_of (Err why), out)
   write_refused why f =
       let due : number_of why ≡ 0 → ⊥ = λ e. omega (arith, number_positive why) in
       owed_refused (write s t out) (λ k. refl) (standing_refused (write_refusals s t out) s t (number_of why) f due) due

@@ -62,9 +62,12 @@ module _ {P : ℕ → ℕ → Type 0} {dec : (a b : ℕ) → Dec (P a b)} {n : �
     pub row_end : b ≡ n → SoFar P dec n out count out₁ (a + 1) 0
     row_end e = record { noted = rw (before_row P dec n a) (rw e at h.noted) }
 
-  pub all_few : {out : List ℕ} {count : ℕ} {out₁ : List ℕ} {a : ℕ} → n ≤ 128 → a ≡ n → SoFar P dec n out count out₁ a 0 → count ≤ 128 * 128
+  pub all_few :
+      {out : List ℕ} {count : ℕ} {out₁ : List ℕ} {a : ℕ} → n ≤ 128 → a ≡ n → SoFar P dec n out count out₁ a 0
+      → count ≤ 128 * 128
   all_few {a = a} small e h =
-      omega (arith, h.noted.counted, before_length P dec n a 0, mul-le-mul {n₁ = a} {m₁ = n} {n₂ = 128} {m₂ = 128} (omega arith) small)
+      let square = mul-le-mul {n₁ = a} {m₁ = n} {n₂ = 128} {m₂ = 128} (omega arith) small in
+      omega (arith, h.noted.counted, before_length P dec n a 0, square)
 
   pub all_noted :
       {out : List ℕ} {count : ℕ} {out₁ : List ℕ} {a : ℕ} → a ≡ n → SoFar P dec n out count out₁ a 0

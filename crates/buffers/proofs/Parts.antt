@@ -2,7 +2,7 @@
 -- Assumes nothing.
 use mathlib.Core.Path.{◌≡◌}
 use mathlib.Core.List.{List, ◌++◌}
-use Prim.Native.Nat.{ℕ, ◌-◌, ◌≤◌}
+use Prim.Native.Nat.{ℕ, ◌-◌}
 use native.Mathlib.Omega.{arith}
 use Rattle.std.proofs.Common.{rules}
 use Rattle.std.proofs.lemmas.List.{same_lists, places}
@@ -20,9 +20,6 @@ module _ (start : ℕ) (out : List ℕ) where
 
   pub part_length : length part ≡ length out - start
   part_length = search (rules, places)
-
-  pub replaced_length : (u : List ℕ) → start ≤ length out → length u ≡ length part → length (replaced u) ≡ length out
-  replaced_length u room e = search (rules, places)
 
   -- what stands at the front of the part stands from start on
   pub part_placed : {w u : List ℕ} → Placed w 0 part u → Placed w start out (replaced u)
