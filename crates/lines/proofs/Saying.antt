@@ -1,7 +1,7 @@
 -- What next and hierarchy give where refusals 1 to 4 are not due, and what is then said of the table.
 -- Assumes nothing.
 use Rattle.std.proofs.Common.{◌≡◌, ℕ, ◌+◌, ◌/◌, ◌≤◌, ◌<◌, List, [], ◌++◌, length, take, drop, map, refl, sym, ◌∙◌, ap}
-use Rattle.std.proofs.Common.{Option, Some, None, IsSome, Result, Ok, Err, arith, length-append}
+use Rattle.std.proofs.Common.{Option, Some, None, IsSome, Result, Ok, Err, arith}
 use Rattle.std.specs.List.{zip, range_with_len}
 use Rattle.std.specs.Simd.{first_chunks}
 use Rattle.order.specs.Tables.{opens, Pair, bytes_of}
@@ -17,6 +17,7 @@ use Rattle.promise.proofs.Standing.{standing_passed, square}
 use Rattle.promise.proofs.Next.{done_exactly}
 use Rattle.promise.proofs.Triangles.{steps_few, hierarchy_accepted}
 use Rattle.buffers.specs.Placed.{Put}
+use Rattle.buffers.specs.Decimal.{decimal}
 use Rattle.buffers.proofs.Placing.{put_then}
 use Rattle.buffers.proofs.Decimals.{decimal_written}
 use Rattle.lines.specs.Lines.{line, capital_c, capital_e, capital_q, counts_line, Shows}
@@ -106,17 +107,16 @@ settled_put {steps = steps} g {come₂ = come₂} room classes pairs put put₂ 
 -- the counts of a table that stands are short, for they are below 100,000
 pub counts_short :
     (s : Session) (t : List ℕ) (count : ℕ) → First (standing s t []) 0 → count ≡ opens s.classes t
-    → length (counts_line s.classes s.tests count) ≤ 22
+    → length (decimal s.classes) + length (decimal s.tests) + length (decimal count) ≤ 13
 counts_short s t count st same =
     let stands = (standing_passed [] s st).0 in
     let few = square s.classes stands.few in
-    simp length-append
-    (omega (
+    omega (
       arith,
       byte_short s.classes (omega (arith, stands.few)),
       (decimal_written s.tests).short 5 (omega arith) (omega (arith, stands.count)),
       (decimal_written count).short 5 (omega arith) (omega (arith, stands.count)),
-    ))
+    )
 
 -- the lines of an accepted book whose table has no open pair, and of one whose table has one
 module _

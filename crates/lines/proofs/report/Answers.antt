@@ -11,7 +11,8 @@ put_line-requires c = simp length-append (grind (arith, decimal_longest))
 pub put_counts-behind-requires : goal.put_counts-behind-requires
 put_counts-behind-requires c =
     let ready = rw c.in-Ok.is at c.requires in
-    omega (arith, counts_short _ _ c.opened-pairs.result (ready.stands refl) c.opened-pairs.ensures)
+    let short = counts_short _ _ c.opened-pairs.result (ready.stands refl) c.opened-pairs.ensures in
+    simp length-append (omega arith)
 
 pub put_settled-requires : goal.put_settled-requires
 put_settled-requires c =
@@ -22,14 +23,14 @@ put_settled-requires c =
       none_open = sym c.opened-pairs.ensures ∙ c.if-pairs-eq0.true;
       heads_room = ready.heads_room;
       steps_room = ready.steps_room;
-      text_room = omega (arith, short, c.put_counts-behind.ensures.ends);
+      text_room = omega (arith, simp length-append at c.put_counts-behind.ensures.ends);
     }
 
 pub put_question-requires : goal.put_question-requires
 put_question-requires c =
     let ready = rw c.in-Ok.is at c.requires in
     let short = counts_short _ _ c.opened-pairs.result (ready.stands refl) c.opened-pairs.ensures in
-    (ready.stands refl, omega arith, omega (arith, short, c.put_counts-behind.ensures.ends))
+    (ready.stands refl, omega arith, omega (arith, simp length-append at c.put_counts-behind.ensures.ends))
 
 pub returns-then-pairs-eq0 : goal.returns-then-pairs-eq0
 returns-then-pairs-eq0 c =
