@@ -5,7 +5,7 @@ use crate::draws::Fact;
 use crate::given::{Given, Sizes, untested};
 use crate::shown::{Counted, Digest, Next, Replied};
 use crate::sweep::{BOOK, Sweep};
-use promise::{Asked, Clip, MOST_CLASSES, Refusal, RefusedBook, Session};
+use promise::{Asked, Clip, MOST_CLASSES, Refusal, Session};
 use std::{array, io};
 
 impl Sweep {
@@ -18,16 +18,11 @@ impl Sweep {
     ) -> io::Result<bool>
         requires { F.IsAlwaysCallable call }
     {
-        let session = given.session;
-        let left = call(session, &mut self.table[..given.lent]);
-        let replied = Replied(left.map_err(|why| RefusedBook {
-            why,
-            place: 0,
-            session,
-        }));
+        let after = call(given.session, &mut self.table[..given.lent]);
+        let replied = Replied::of(after, given.session);
         println!(self.out; "{letter} {replied} {}", Digest(&self.table[..given.lent]))?;
-        self.settle(given, left);
-        Ok(left.is_ok())
+        self.settle(given, after);
+        Ok(after.is_ok())
     }
 
     // fresh is given a class count alone, and gives no session back where it is refused. Gives whether it was accepted.
@@ -38,25 +33,15 @@ impl Sweep {
     }
 
     pub fn tell(&mut self, given: Given, fact: Fact) -> io::Result<()> {
-        let Fact {
-            lower,
-            upper,
-            holds,
-        } = fact;
         self.change('T', given, |session, table| {
-            dawnhangra::tell(session, table, lower, upper, holds)
+            dawnhangra::tell(session, table, fact.lower, fact.upper, fact.holds)
         })?;
         Ok(())
     }
 
     pub fn answer(&mut self, given: Given, fact: Fact) -> io::Result<()> {
-        let Fact {
-            lower,
-            upper,
-            holds,
-        } = fact;
         self.change('A', given, |session, table| {
-            dawnhangra::answer(session, table, lower, upper, holds)
+            dawnhangra::answer(session, table, fact.lower, fact.upper, fact.holds)
         })?;
         Ok(())
     }
@@ -98,15 +83,8 @@ impl Sweep {
         let Ok(Some(Asked { lower, upper })) = next else {
             return Ok(false);
         };
-        let holds = self.draws.verdict();
-        self.answer(
-            self.untroubled(sizes),
-            Fact {
-                lower,
-                upper,
-                holds,
-            },
-        )?;
+        let fact = self.draws.verdict_on(lower, upper);
+        self.answer(self.untroubled(sizes), fact)?;
         Ok(true)
     }
 
@@ -164,28 +142,13 @@ impl Sweep {
         Ok(())
     }
 
-    // How many bytes of the book last written are lent. Now and then one of them changes first.
-    fn draw_part(&mut self) -> usize
-        ensures { result ≤ 32778 }
-    {
-        let written = self.written.min(BOOK);
-        match self.draws.below(4) {
-            0 if written > 0 => {
-                let place = self.draws.below(written);
-                self.book[place] = self.draws.below(6) as u8;
-                written
-            }
-            1 => self.draws.below(written + 1),
-            _ => written,
-        }
-    }
-
     // A book is read onto spare: no trouble with the table lasts.
     pub fn read(&mut self, given: Given, sizes: Sizes) -> io::Result<()> {
-        let part = self.draw_part();
-        let book = &self.book[..part];
-        let spare = &mut self.spare[..];
-        let spare = &mut spare[..sizes.lent];
+        let written = self.written.min(BOOK);
+        let book = &mut self.book.as_mut_slice()[..written];
+        let part = self.draws.part(book);
+        let book = &book[..part];
+        let spare = &mut self.spare.as_mut_slice()[..sizes.lent];
         let replied = dawnhangra::read(book, spare);
         println!(self.out; "R {} {} {}", Replied(replied), Digest(spare), Digest(book))?;
         self.put_back(given);

@@ -1,5 +1,5 @@
 // Drawing numbers.
-ghost use Rattle.std.specs.Prelude.{◌<◌, ◌≤◌, IfSome};
+ghost use Rattle.std.specs.Prelude.{◌<◌, ◌≤◌, length, IfSome};
 
 const MODULUS: u32 = 2147483647;
 
@@ -63,14 +63,34 @@ impl Draws {
         self.below(2) == 1
     }
 
-    pub fn fact(&mut self, classes: usize) -> Fact
-        requires { (0 < classes) × (classes ≤ 128) }
-    {
-        let (lower, upper) = self.pair(classes);
+    pub fn verdict_on(&mut self, lower: usize, upper: usize) -> Fact {
         Fact {
             lower,
             upper,
             holds: self.verdict(),
+        }
+    }
+
+    pub fn fact(&mut self, classes: usize) -> Fact
+        requires { (0 < classes) × (classes ≤ 128) }
+    {
+        let (lower, upper) = self.pair(classes);
+        self.verdict_on(lower, upper)
+    }
+
+    // How many bytes of a book are lent. Now and then one of them changes first.
+    pub fn part(&mut self, book: &mut [u8]) -> usize
+        ensures { result ≤ length book.new }
+    {
+        let length = book.len();
+        match self.below(4) {
+            0 if length > 0 => {
+                let place = self.below(length);
+                book[place] = self.below(6) as u8;
+                length
+            }
+            1 => self.below(length + 1),
+            _ => length,
         }
     }
 }

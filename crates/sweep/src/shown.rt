@@ -7,6 +7,17 @@ use std::fmt;
 #[derive(Clone, Copy)]
 pub struct Replied(pub Result<Session, RefusedBook>);
 
+impl Replied {
+    // Outside books a refused call gives back the session that it was given.
+    pub fn of(after: Result<Session, Refusal>, given: Session) -> Replied {
+        Replied(after.map_err(|why| RefusedBook {
+            why,
+            place: 0,
+            session: given,
+        }))
+    }
+}
+
 impl fmt::Display for Replied {
     fn fmt<W: fmt::Write>(&self, f: &mut fmt::Formatter<W>) -> fmt::Result {
         let (number, place, session) = match self.0 {

@@ -82,10 +82,9 @@ impl Sweep {
         }
     }
 
-    // After a call: the session that an accepted one leaves holds from now on, and after a refused one what was there
-    // before the trouble.
-    pub fn settle(&mut self, given: Given, left: Result<Session, Refusal>) {
-        match left {
+    // After a call: the session after an accepted one holds from now on, and otherwise what was there before the trouble.
+    pub fn settle(&mut self, given: Given, after: Result<Session, Refusal>) {
+        match after {
             Ok(session) => self.session = session,
             Err(_) => self.put_back(given),
         }
