@@ -56,8 +56,8 @@ impl Sweep {
         Ok(())
     }
 
-    // Now and then any set of classes, otherwise those that a row of the table has a yes for; and now and then one
-    // class more that there is not.
+    // Now and then any set of classes, otherwise those that a row of the table has a yes for. Now and then one class
+    // more, which there is not.
     fn draw_clip(&mut self, classes: usize) -> Clip
         requires { (0 < classes) × (classes ≤ 128) }
     {

@@ -82,7 +82,8 @@ impl Sweep {
         }
     }
 
-    // After a call: the session after an accepted one holds from now on, and otherwise what was there before the trouble.
+    // After a call: the session after an accepted one holds from now on, and after a refused one what was there before
+    // the trouble.
     pub fn settle(&mut self, given: Given, after: Result<Session, Refusal>) {
         match after {
             Ok(session) => self.session = session,
