@@ -1,11 +1,15 @@
 -- Fact books: what the bytes of one say, reading and writing. Document 01, "The fact book".
 -- Assumes nothing.
 use Rattle.std.specs.Prelude.{◌≡◌, ◌≢◌, ◌⊎◌, Bool, true, false, List, [], ◌∷◌, ◌++◌, ℕ, zero, suc, ◌+◌, ◌*◌, ◌-◌, ◌/◌}
-use Rattle.std.specs.Prelude.{◌%◌, ◌<◌, eqb, length, get_or, drop, Result, Ok, Err}
+use Rattle.std.specs.Prelude.{◌%◌, ◌<◌, eqb, length, get_or, drop, Result, Ok, Err, MatchResult}
 use Rattle.promise.specs.Refusals.{Condition, First, cut_short, unknown_tag, misplaced_tag, bad_length, bad_verdict}
 use Rattle.promise.specs.Refusals.{standing, no_room, number_of}
 use Rattle.order.specs.Facts.{Fact, fact_on}
 use Rattle.order.specs.Tables.{mark, Pair, Lists, bytes_of}
+use Rattle.promise.specs.declared.Refusal.{Refusal}
+use Rattle.promise.specs.declared.Refusal.TheVariants.{UnknownTag}
+use Rattle.promise.specs.declared.Tag.{Tag}
+use Rattle.promise.specs.declared.Tag.TheVariants.{ClassCount, YesFacts, NoFacts, Answers}
 use Rattle.promise.specs.declared.Stage.{Stage}
 use Rattle.promise.specs.declared.Stage.TheVariants.{Start, Begun}
 use Rattle.promise.specs.declared.Session.{Session}
@@ -78,6 +82,17 @@ lookup tag (here ∷ later) = first_match (eqb tag here.tag) here (lookup tag la
 
 unfoldable pub row_of : ℕ → Lookup
 row_of tag = lookup tag tags
+
+-- the byte that each tag is
+abbrev pub tag_byte : Tag → ℕ
+tag_byte ClassCount = 1
+tag_byte YesFacts = 2
+tag_byte NoFacts = 3
+tag_byte Answers = 4
+
+-- what a byte is read as: the tag with that byte, or 11 where the byte has no row
+abbrev pub Tagged : ℕ → Result Tag Refusal → Type 0
+Tagged byte r = MatchResult r (λ tag. tag_byte tag ≡ byte) (λ why. (why ≡ UnknownTag) × (row_of byte ≡ Lookup.none))
 
 -- the length that a field gives, "high byte first"
 abbrev pub length_of : List ℕ → ℕ

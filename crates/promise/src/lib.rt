@@ -1,8 +1,10 @@
 // The values that the public calls take and give; specs/ says what each call owes. The only code here turns answers
-// into what C gets.
+// into what C gets, and a book's byte into the tag that it is.
 #![tactic(auto)]
 
 mod for_c;
+
+ghost use Rattle.promise.specs.Book.{Tagged};
 
 // The class count, and the tally of tests.
 #[repr(C)]
@@ -106,6 +108,24 @@ pub enum Tag {
     YesFacts = 2,
     NoFacts = 3,
     Answers = 4,
+}
+
+// The tag that a byte of a book is, or the refusal of a byte that is none.
+impl TryFrom<u8> for Tag {
+    type Error = Refusal;
+
+    ghost try_from_gives = { Tagged };
+
+    #[tactic(auto, unfolding(crate::specs::Book::row_of))]
+    fn try_from(byte: u8) -> Result<Tag, Refusal> {
+        match byte {
+            1 => Ok(Tag::ClassCount),
+            2 => Ok(Tag::YesFacts),
+            3 => Ok(Tag::NoFacts),
+            4 => Ok(Tag::Answers),
+            _ => Err(Refusal::UnknownTag),
+        }
+    }
 }
 
 // The most classes that a table may have.
