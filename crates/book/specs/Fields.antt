@@ -2,21 +2,12 @@
 -- Assumes nothing.
 use Rattle.std.specs.Prelude.{List, [], ◌∷◌, ℕ, ◌+◌, ◌*◌, ◌≤◌, length}
 use Rattle.order.specs.Tables.{Pair, bytes_of}
-use Rattle.promise.specs.declared.Tag.{Tag}
-use Rattle.promise.specs.declared.Tag.TheVariants.{ClassCount, YesFacts, NoFacts, Answers}
 use Rattle.promise.specs.Refusals.{no_room}
 use Rattle.promise.specs.Calls.{Counted, started, Call, TooShort}
 use Rattle.promise.specs.Book.{field, PairsMarked, BookOf, write}
 use Rattle.buffers.specs.Placed.{Put}
 use Rattle.buffers.specs.Noted.{Noted}
 use Rattle.standing.specs.Left.{left}
-
--- the byte that each tag is
-abbrev pub tag_byte : Tag → ℕ
-tag_byte ClassCount = 1
-tag_byte YesFacts = 2
-tag_byte NoFacts = 3
-tag_byte Answers = 4
 
 -- the pairs off the diagonal that are marked m were counted, and written if there is room for all of them
 pub record PairsNoted (n : ℕ) (t : List ℕ) (m : ℕ) (out : List ℕ) (count : ℕ) (out' : List ℕ) : Type 0 where

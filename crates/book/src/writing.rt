@@ -1,10 +1,10 @@
 // The fact book of a table.
 ghost use Rattle.std.specs.Prelude.{[], ◌∷◌, ◌+◌, ◌/◌, ◌%◌, ◌<◌, ◌≤◌, length};
 ghost use Rattle.promise.specs.Calls.{Owed, count_of};
-ghost use Rattle.promise.specs.Book.{write};
+ghost use Rattle.promise.specs.Book.{tag_byte, write};
 ghost use Rattle.buffers.specs.Placed.{Put};
 ghost use Rattle.marks.specs.Bytes.{byte_of};
-ghost use Rattle.book.specs.Fields.{PairsNoted, FieldFits, FieldPut, BookFits, BookPut, tag_byte, write_left};
+ghost use Rattle.book.specs.Fields.{PairsNoted, FieldFits, FieldPut, BookFits, BookPut, write_left};
 
 use buffers::{put_byte, put_bytes, put_pair};
 use marks::{Mark, Marks};
