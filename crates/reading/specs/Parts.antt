@@ -1,7 +1,7 @@
 -- The parts of a book that are followed one by one, and what following one leaves.
 -- Assumes nothing.
 use Rattle.std.specs.Prelude.{◌≡◌, Bool, true, false, List, [], ◌∷◌, ℕ, ◌+◌, ◌/◌, ◌%◌, ◌≤◌, eqb, length, get_or}
-use Rattle.std.specs.Prelude.{Option, Some, None, Result, Ok, Err}
+use Rattle.std.specs.Prelude.{Result, Ok, Err}
 use Rattle.promise.specs.Refusals.{First, standing}
 use Rattle.promise.specs.declared.Refusal.{Refusal}
 use Rattle.promise.specs.declared.RefusedBook.{RefusedBook}
@@ -30,10 +30,9 @@ verdict_by (Told verdict) bytes = verdict
 verdict_by Answered bytes = get_or bytes 2 0
 
 -- the row of a tag, from what the code keeps of it
-abbrev pub row_for : ℕ → Option Contents → Lookup
-row_for tag None = Lookup.none
-row_for tag (Some Contents.Classes) = Lookup.row (count_row tag)
-row_for tag (Some (Contents.Facts facts)) =
+abbrev pub row_for : ℕ → Contents → Lookup
+row_for tag Contents.Classes = Lookup.row (count_row tag)
+row_for tag (Contents.Facts facts) =
     Lookup.row (facts_row tag (width_of facts) (kind_of facts) (verdict_by facts))
 
 -- where contents may stand, and which lengths they allow
@@ -50,7 +49,7 @@ allows_length (Contents.Facts facts) size = eqb (size % width_of facts) 0
 -- a field that is not refused, and what it contains
 pub record FieldRight (stage : Stage) (bytes : List ℕ) (contents : Contents) : Type 0 where
   pub first : First (field_refusals stage bytes) 0
-  pub row : row_of (get_or bytes 0 0) ≡ row_for (get_or bytes 0 0) (Some contents)
+  pub row : row_of (get_or bytes 0 0) ≡ row_for (get_or bytes 0 0) contents
   pub stands : stands_at contents stage ≡ true
   pub allowed : allows_length contents (length_of bytes) ≡ true
   pub within : 3 + length_of bytes ≤ length bytes

@@ -5,7 +5,7 @@ ghost use Rattle.promise.specs.Book.{reply_of_read};
 ghost use Rattle.reading.specs.Parts.{width_of, fact_at, placed_at, PartFollowed};
 
 use crate::tags::{Contents, Facts};
-use promise::{Refusal, RefusedBook, Session, Stage};
+use promise::{Refusal, RefusedBook, Session, Stage, Tag};
 use session::take_fact;
 
 // The session where no class count was accepted.
@@ -52,7 +52,8 @@ impl<'b> Field<'b> {
         if self.bytes.len() < 3 {
             return Err(Refusal::CutShort);
         }
-        let contents = Contents::tagged(self.byte(0)).ok_or(Refusal::UnknownTag)?;
+        let tag = Tag::try_from(self.byte(0))?;
+        let contents = Contents::of(tag);
         if !contents.stand(stage) {
             return Err(Refusal::MisplacedTag);
         }

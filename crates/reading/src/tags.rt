@@ -1,6 +1,6 @@
 // The table of tags, as far as reading goes by it.
 ghost use Rattle.std.specs.Prelude.{◌≡◌, ◌≤◌, length};
-ghost use Rattle.promise.specs.Book.{row_of};
+ghost use Rattle.promise.specs.Book.{row_of, tag_byte};
 ghost use Rattle.reading.specs.Parts.{row_for, width_of, kind_of, verdict_by, stands_at, allows_length};
 
 use promise::{Kind, Stage, Tag};
@@ -53,21 +53,16 @@ pub enum Contents {
 }
 
 impl Contents {
-    // What a field with a tag contains, if it is a tag at all.
+    // What a field with a tag contains.
     #[tactic(auto, unfolding(promise::specs::Book::row_of))]
-    pub fn tagged(tag: u8) -> Option<Contents>
-        ensures { row_of tag ≡ row_for tag result }
+    pub fn of(tag: Tag) -> Contents
+        ensures { row_of (tag_byte tag) ≡ row_for (tag_byte tag) result }
     {
-        const CLASS_COUNT: u8 = Tag::ClassCount as u8;
-        const YES_FACTS: u8 = Tag::YesFacts as u8;
-        const NO_FACTS: u8 = Tag::NoFacts as u8;
-        const ANSWERS: u8 = Tag::Answers as u8;
         match tag {
-            CLASS_COUNT => Some(Contents::Classes),
-            YES_FACTS => Some(Contents::Facts(Facts::Told(1))),
-            NO_FACTS => Some(Contents::Facts(Facts::Told(0))),
-            ANSWERS => Some(Contents::Facts(Facts::Answered)),
-            _ => None,
+            Tag::ClassCount => Contents::Classes,
+            Tag::YesFacts => Contents::Facts(Facts::Told(1)),
+            Tag::NoFacts => Contents::Facts(Facts::Told(0)),
+            Tag::Answers => Contents::Facts(Facts::Answered),
         }
     }
 
