@@ -15,9 +15,10 @@ use marks::{Mark, Marks};
 use members::{non_members, none_beyond, none_contradicts};
 use promise::{Clip, MOST_CLASSES, Refusal, Session};
 
-// A clip is taken in by a session and a table for which none of the refusals 1 to 4 is due, which stands in the clause as
-// for a fact. Whether one of its noes contradicts is known before the first byte changes. Where none does, members are
-// under members only: the noes settle the pairs of a member and a non-member and no others, and one pass marks them.
+// A clip is taken in by a session and a table for which none of the refusals 1 to 4 is due, which stands in the clause
+// as for a fact. Whether one of its noes contradicts is known before the first byte changes. Where none does, members
+// are under members only: the noes settle the pairs of a member and a non-member and no others, and one pass marks
+// them.
 fn take_clip(
     session: Session,
     table: &mut [u8],

@@ -26,8 +26,8 @@ pub fn report_too_long(text: &mut [u8]) -> usize
     put_line(text, 0, b'R', Refusal::TooLong as usize, MOST_INPUT)
 }
 
-// How many pairs are open, where none of the refusals 1 to 4 is due: a call of the face takes any session and table, and
-// no value that says more of them.
+// How many pairs are open, where none of the refusals 1 to 4 is due: a call of the face takes any session and table,
+// and no value that says more of them.
 fn opened(session: Session, table: &[u8]) -> usize
     requires { First (standing session table.now []) 0 }
     ensures { result ≡ opens session.classes table.now }

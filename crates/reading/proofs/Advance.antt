@@ -107,7 +107,9 @@ module _
         pub refused_here : r.number ≢ 0 → PartFollowed (facts_at facts size (place + 3) (drop 3 bytes)) s₀ t₀ r t₁
         refused_here ne =
             record {
-              follows = from_here (follows_stop facts_behind r t₁ ne (fact_at facts (place + at) (drop at bytes) ∷ []) s t part.follows);
+              follows = from_here
+                  (follows_stop facts_behind r t₁ ne (fact_at facts (place + at) (drop at bytes) ∷ []) s t
+                  part.follows);
               stands = λ z. absurd (ne z);
             }
 
@@ -128,7 +130,8 @@ module _
                   part.follows f);
             })
 
-    pub all_followed : 3 + size ≤ at → PartFollowed (facts_at facts size (place + 3) (drop 3 bytes)) s₀ t₀ (accepted s) t
+    pub all_followed : 3 + size ≤ at → PartFollowed (facts_at facts size (place + 3) (drop 3 bytes)) s₀ t₀
+        (accepted s) t
     all_followed l =
         record {
           follows =

@@ -67,8 +67,8 @@ impl<'b> Field<'b> {
         Ok(contents)
     }
 
-    // The facts of the field are followed from the left. That none of the refusals 1 to 4 is due stands in the clause, as
-    // in `session`: the table is written to.
+    // The facts of the field are followed from the left. That none of the refusals 1 to 4 is due stands in the clause,
+    // as in `session`: the table is written to.
     fn follow(
         &self,
         facts: Facts,

@@ -35,8 +35,8 @@ fn tested(session: Session, kind: Kind) -> Session
     }
 }
 
-// A fact is taken in by a session and a table for which none of the refusals 1 to 4 is due. That stands in the clause and
-// in no value: the table is written to, and `passes` says what is lost of a struct that could be.
+// A fact is taken in by a session and a table for which none of the refusals 1 to 4 is due. That stands in the clause
+// and in no value: the table is written to, and `passes` says what is lost of a struct that could be.
 pub fn take_fact(
     session: Session,
     table: &mut [u8],

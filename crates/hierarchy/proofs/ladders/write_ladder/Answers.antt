@@ -4,7 +4,8 @@ use Rattle.hierarchy.proofs.Outcomes.{start_reached, ladder_short, ladder_done}
 use Rattle.hierarchy.proofs.ladders.write_ladder.Goals as goal
 
 pub climb-count-requires : goal.climb-count-requires
-climb-count-requires c = rw c.of-heads.ensures (start_reached c.requires (rw c.of-heads.ensures at c.head-start.ensures))
+climb-count-requires c = rw c.of-heads.ensures
+    (start_reached c.requires (rw c.of-heads.ensures at c.head-start.ensures))
 
 pub returns-then-rungs-count : goal.returns-then-rungs-count
 returns-then-rungs-count c =

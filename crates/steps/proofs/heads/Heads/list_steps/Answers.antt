@@ -36,8 +36,11 @@ overflow_mul-count c = omega (arith, so-few (goal.at.overflow_mul-count c).In-lo
 
 pub put_pair-requires : goal.put_pair-requires
 put_pair-requires c =
-    let m = c.args.self.now.marks in
-    (omega (arith, so-few (goal.at.put_pair-requires c).In-loop-b), omega (arith, m.shape.few), omega (arith, m.shape.few))
+    let m = c.args.self.now.marks in (
+      omega (arith, so-few (goal.at.put_pair-requires c).In-loop-b),
+      omega (arith, m.shape.few),
+      omega (arith, m.shape.few),
+    )
 
 pub overflow_add-count : goal.overflow_add-count
 overflow_add-count c = omega (arith, so-few (goal.at.overflow_add-count c).In-loop-b)
