@@ -1,4 +1,4 @@
-// Bytes as they are.
+// Bytes as they are. The contracts say every byte of a lent buffer, which those of `write!` do not.
 ghost use Rattle.std.specs.Prelude.{[], ◌∷◌, ◌<◌, ◌+◌, ◌≤◌, length};
 ghost use Rattle.buffers.specs.Placed.{Put};
 ghost use Rattle.buffers.specs.Noted.{PairPut};

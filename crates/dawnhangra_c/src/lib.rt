@@ -11,24 +11,17 @@ ghost use Rattle.promise.specs.Hierarchy.{hierarchy, ladder};
 ghost use Rattle.promise.specs.Book.{BookRead, write};
 ghost use Rattle.promise.specs.declared.Kind.TheVariants.{Answered, Told};
 
-use promise::{CrossedCount, CrossedQuestion, Refusal, Reply, Session};
+use promise::{CrossedCount, CrossedQuestion, Refusal, RefusedBook, Reply, Session};
 
-// What a call outside books replies. A refusal has place 0, and gives this session back.
+// What a call outside books replies: a refusal has place 0, and gives this session back.
 fn replied(back: Session, answer: Result<Session, Refusal>) -> Reply
     ensures { result ≡ reply_of back answer }
 {
-    match answer {
-        Ok(session) => Reply {
-            number: 0,
-            place: 0,
-            session,
-        },
-        Err(why) => Reply {
-            number: why as u8,
-            place: 0,
-            session: back,
-        },
-    }
+    Reply::from(answer.map_err(|why| RefusedBook {
+        why,
+        place: 0,
+        session: back,
+    }))
 }
 
 // Starts a table.

@@ -21,6 +21,7 @@ fn write_hierarchy(marks: &Marks<'_>, heads: &mut [u8], steps: &mut [u8]) -> Res
         return Err(Refusal::NoRoom);
     }
     let found = Heads::of(marks);
+    // No heap: a buffer that holds the most, of which the front is listed.
     let mut listed = [0; MOST_STEPS];
     let count = found.list_steps(&mut listed);
     let size = 2 * count;

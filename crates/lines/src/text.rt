@@ -1,4 +1,5 @@
 // Numbers and lines, put into a buffer from an index on. Each function gives the index behind what it put.
+// The contracts say every byte of a lent buffer, which those of `write!` do not; a `String` would be on the heap.
 ghost use Rattle.std.specs.Prelude.{◌++◌, ◌+◌, ◌*◌, ◌≤◌, List, length};
 ghost use Rattle.std.specs.Iterator.{Drains, IsFinite, size};
 ghost use Rattle.order.specs.Tables.{Pair};

@@ -81,7 +81,8 @@ impl<'a> Marks<'a> {
             .sum()
     }
 
-    // The first open pair, rows in rising order and then columns, or that none is open.
+    // The first open pair, rows in rising order and then columns, or that none is open. The form is fixed: nested
+    // loops, left by a label.
     pub fn first_open(&self) -> Option<Asked>
         ensures { Names self.now.classes self.now.bytes.now (question_of (Ok result)) }
     {

@@ -1,4 +1,4 @@
-// The printing program.
+// The printing program. In the gate a program has one input, so that it stands three times.
 #![tactic(auto)]
 
 use printing::print_input;

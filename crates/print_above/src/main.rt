@@ -1,4 +1,4 @@
-// The printing program, run on one byte more than it takes.
+// The printing program, run on one byte more than it takes. It is `print`, with an input of its own in the gate.
 #![tactic(auto)]
 
 use printing::print_input;

@@ -1,4 +1,5 @@
-// The printing program, run on a book of 32,768 bytes, the most that it takes.
+// The printing program, run on a book of 32,768 bytes, the most that it takes. It is `print`, with an input of its own
+// in the gate.
 #![tactic(auto)]
 
 use printing::print_input;

@@ -22,6 +22,7 @@ pub fn read(book: &[u8], table: &mut [u8]) -> Result<Session, RefusedBook>
         });
     }
     let mut session = NO_SESSION;
+    // The statements speak of the stage, and a session stands beside it at the start too.
     let mut stage = Stage::Start;
     let mut at = 0;
     // Each head says where the next field begins, so no range gives the places beforehand.

@@ -27,7 +27,7 @@ pub fn fresh(classes: usize, table: &mut [u8]) -> Result<Session, Refusal>
     Ok(Session { classes, tests: 0 })
 }
 
-// A fact is told: it never counts as a test.
+// A fact is told: it never counts as a test. README and the header have this call and the next by their names.
 pub fn tell(
     session: Session,
     table: &mut [u8],

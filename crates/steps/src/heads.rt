@@ -39,7 +39,7 @@ impl<'a> Heads<'a> {
         ensures { result.marks ≡ marks.now }
     {
         let mut heads = [0; MOST_CLASSES];
-        // `array::from_fn` would work out 128 heads, whatever the classes are.
+        // `array::from_fn` would ask for a head of numbers that are no classes.
         for a in 0..marks.classes {
             heads[a] = head_of(marks, a) as u8;
         }

@@ -75,7 +75,7 @@ impl Sweep {
         Ok(())
     }
 
-    // A call with trouble.
+    // A call with trouble. docs/SWEEP.md has the numbers.
     fn call(&mut self, sizes: Sizes) -> io::Result<()> {
         let given = self.troubled(sizes);
         match self.draws.below(19) {

@@ -1,6 +1,6 @@
-// What calls give, as the numbers of their lines. The first two are the refusal number and its place, both 0 where the
-// call is accepted, and the place is 0 outside books.
-use promise::{Asked, Refusal, RefusedBook, Session};
+// What calls give, as the numbers of their lines, which are those that C gets. The first two are the refusal number
+// and its place, both 0 where the call is accepted, and the place is 0 outside books.
+use promise::{Asked, CrossedCount, CrossedQuestion, Refusal, RefusedBook, Reply, Session};
 use std::fmt;
 
 // What a call that gives a session replied.
@@ -20,11 +20,11 @@ impl Replied {
 
 impl fmt::Display for Replied {
     fn fmt<W: fmt::Write>(&self, f: &mut fmt::Formatter<W>) -> fmt::Result {
-        let (number, place, session) = match self.0 {
-            Ok(session) => (0, 0, session),
-            Err(refused) => (refused.why as u8, refused.place, refused.session),
-        };
-        let Session { classes, tests } = session;
+        let Reply {
+            number,
+            place,
+            session: Session { classes, tests },
+        } = Reply::from(self.0);
         write!(f, "{number} {place} {classes} {tests}")
     }
 }
@@ -35,10 +35,12 @@ pub struct Counted(pub Result<usize, Refusal>);
 
 impl fmt::Display for Counted {
     fn fmt<W: fmt::Write>(&self, f: &mut fmt::Formatter<W>) -> fmt::Result {
-        match self.0 {
-            Ok(count) => write!(f, "0 0 {count}"),
-            Err(why) => write!(f, "{} 0 0", why as u8),
-        }
+        let CrossedCount {
+            number,
+            place,
+            count,
+        } = CrossedCount::from(self.0);
+        write!(f, "{number} {place} {count}")
     }
 }
 
@@ -48,11 +50,12 @@ pub struct Next(pub Result<Option<Asked>, Refusal>);
 
 impl fmt::Display for Next {
     fn fmt<W: fmt::Write>(&self, f: &mut fmt::Formatter<W>) -> fmt::Result {
-        match self.0 {
-            Ok(Some(Asked { lower, upper })) => write!(f, "0 0 {lower} {upper}"),
-            Ok(None) => write!(f, "0 0"),
-            Err(why) => write!(f, "{} 0", why as u8),
+        let next = CrossedQuestion::from(self.0);
+        write!(f, "{} {}", next.number, next.place)?;
+        if next.asks {
+            write!(f, " {} {}", next.lower, next.upper)?;
         }
+        Ok(())
     }
 }
 

@@ -1,5 +1,5 @@
 // What calls give, in words.
-use promise::{Asked, Refusal, RefusedBook, Session};
+use promise::{Asked, Refusal, RefusedBook, Reply, Session};
 use std::fmt;
 
 // Why a call other than reading is refused: there the place is 0.
@@ -18,11 +18,11 @@ pub struct Replied(pub Result<Session, RefusedBook>);
 
 impl fmt::Display for Replied {
     fn fmt<W: fmt::Write>(&self, f: &mut fmt::Formatter<W>) -> fmt::Result {
-        let (number, place, session) = match self.0 {
-            Ok(session) => (0, 0, session),
-            Err(refused) => (refused.why as u8, refused.place, refused.session),
-        };
-        let Session { classes, tests } = session;
+        let Reply {
+            number,
+            place,
+            session: Session { classes, tests },
+        } = Reply::from(self.0);
         write!(
             f,
             "number {number} place {place} classes {classes} tests {tests}"
