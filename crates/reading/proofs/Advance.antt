@@ -107,7 +107,8 @@ module _
         pub refused_here : r.number ≢ 0 → PartFollowed (facts_at facts size (place + 3) (drop 3 bytes)) s₀ t₀ r t₁
         refused_here ne =
             record {
-              follows = from_here
+              follows =
+                  from_here
                   (follows_stop facts_behind r t₁ ne (fact_at facts (place + at) (drop at bytes) ∷ []) s t
                   part.follows);
               stands = λ z. absurd (ne z);
@@ -130,8 +131,8 @@ module _
                   part.follows f);
             })
 
-    pub all_followed : 3 + size ≤ at → PartFollowed (facts_at facts size (place + 3) (drop 3 bytes)) s₀ t₀
-        (accepted s) t
+    pub all_followed :
+        3 + size ≤ at → PartFollowed (facts_at facts size (place + 3) (drop 3 bytes)) s₀ t₀ (accepted s) t
     all_followed l =
         record {
           follows =
@@ -189,16 +190,13 @@ module _ {book t₀ : List ℕ} {at : ℕ} {stage : Stage} {s : Session} {t : Li
         book_refused ne =
             record {
               followed =
-                  whole r t₁
-                  (follows_stop items_behind r t₁ ne (field_at stage at (drop at book)) s t
-                  part.follows);
+                  whole r t₁ (follows_stop items_behind r t₁ ne (field_at stage at (drop at book)) s t part.follows);
             }
 
         right_here : r.number ≡ 0 → First (field_refusals stage (drop at book)) 0
         right_here z = go part.follows
           where
-            go : Follows (field_at stage at (drop at book)) s t r t₁
-                → First (field_refusals stage (drop at book)) 0
+            go : Follows (field_at stage at (drop at book)) s t r t₁ → First (field_refusals stage (drop at book)) 0
             go (k, first, inl (ne, e)) = absurd (ne (sym (ap (λ (x : Reply). x.number) e.0) ∙ z))
             go (k, first, inr (e, _)) = subst (First (field_refusals stage (drop at book))) e first
 
@@ -216,8 +214,7 @@ module _ {book t₀ : List ℕ} {at : ℕ} {stage : Stage} {s : Session} {t : Li
               stands = λ _. part.stands z;
               all = λ q t' f.
                   whole q t'
-                  (follows_on items_behind r q t₁ t' z (field_at stage at (drop at book)) s t
-                  part.follows
+                  (follows_on items_behind r q t₁ t' z (field_at stage at (drop at book)) s t part.follows
                   (subst
                   (λ (stage₁ : Stage). Follows (items_at book stage₁ (at + size_of (drop at book))) r.session t₁ q t')
                   (sym (stage_behind_field stage (drop at book) (right_here z))) f));

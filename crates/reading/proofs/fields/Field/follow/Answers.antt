@@ -36,5 +36,7 @@ returns c = all_followed c.loop-at.invariant.left (omega (arith, c.loop-at.invar
 pub returns-in_ok-session : goal.returns-in_ok-session
 returns-in_ok-session c =
     let p = rw take_rest at c.in_ok-session.ensures in
-    all_followed (facts_next c.loop-at.invariant.left (omega arith) p (c.loop-at.at + c.width-at-step.result)
-    (omega (arith, c.width-at-step.ensures)) refl) (omega arith)
+    let next = c.loop-at.at + c.width-at-step.result in
+    all_followed
+    (facts_next c.loop-at.invariant.left (omega arith) p next (omega (arith, c.width-at-step.ensures)) refl)
+    (omega arith)
