@@ -1,6 +1,6 @@
 -- What next and hierarchy give where refusals 1 to 4 are not due, and what is then said of the table.
 -- Assumes nothing.
-use Rattle.std.proofs.Common.{◌≡◌, ℕ, ◌+◌, ◌/◌, ◌≤◌, ◌<◌, List, [], ◌++◌, length, take, drop, map, refl, sym, ◌∙◌, ap}
+use Rattle.std.proofs.Common.{◌≡◌, ℕ, ◌+◌, ◌/◌, ◌≤◌, ◌<◌, List, [], length, take, drop, map, refl, sym, ◌∙◌, ap}
 use Rattle.std.proofs.Common.{Option, Some, None, IsSome, Result, Ok, Err, arith}
 use Rattle.std.specs.List.{zip, range_with_len}
 use Rattle.std.specs.Simd.{first_chunks}

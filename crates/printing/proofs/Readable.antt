@@ -4,7 +4,6 @@ use Rattle.std.proofs.Common.{◌≡◌, ℕ, ◌*◌, ◌≤◌, List, [], take
 use Rattle.std.proofs.Common.{length-take-le}
 use Rattle.order.proofs.Bytes.{front_marks}
 use Rattle.promise.specs.declared.Session.{Session}
-use Rattle.promise.specs.declared.Reply.{Reply}
 use Rattle.promise.specs.declared.RefusedBook.{RefusedBook}
 use Rattle.promise.specs.Refusals.{First, standing}
 use Rattle.promise.specs.Calls.{accepted}

@@ -1,6 +1,6 @@
 -- `lines::put_settled` meets its contract: hierarchy refuses nothing, and what it wrote is listed.
 -- Assumes nothing.
-use Rattle.std.proofs.Common.{◌≡◌, ◌/◌, ◌≤◌, length, refl, ◌∙◌, rules, arith, tests}
+use Rattle.std.proofs.Common.{◌≡◌, ◌/◌, ◌≤◌, length, refl, rules, arith, tests}
 use Rattle.std.specs.Simd.{first_chunks}
 use Rattle.std.proofs.lemmas.Iterator.{YieldsList-from_slice, YieldsList-from_range, YieldsList-from_zip}
 use Rattle.std.proofs.lemmas.Iterator.{YieldsList-from_take, YieldsList-from_map}
