@@ -29,7 +29,7 @@ pub fn put_line(text: &mut [u8], at: usize, letter: u8, first: usize, second: us
     put_byte(text, behind, b'\n')
 }
 
-// A line for each pair of bytes that comes.
+// A line for each pair of bytes that comes, each of at most 10 bytes.
 pub fn put_lines<I: Iterator<Item = (u8, u8)>>(
     text: &mut [u8],
     at: usize,
