@@ -7,7 +7,8 @@ use buffers::put_pair;
 
 impl Heads<'_> {
     // Counts the direct steps, of which 128 classes have at most 4096. Each is written, two bytes, ordered by a and
-    // then b, if it fits: a buffer with room for all gets all. `book` lists pairs too, but knows nothing once for a row.
+    // then b, if it fits: a buffer with room for all gets all. `book` lists pairs too, but knows nothing once for a
+    // row.
     pub fn list_steps(&self, steps: &mut [u8]) -> usize
         ensures noted { StepsNoted self.now.marks.classes self.now.marks.bytes.now steps.old result steps.new }
         ensures few { result ≤ 4096 }
