@@ -14,7 +14,7 @@ impl Heads<'_> {
         ensures few { result ≤ 4096 }
     {
         let n = self.marks.classes;
-        let mut count: usize = 0;
+        let mut count = 0;
         for a in 0..n {
             if !self.is_head(a) {
                 continue;

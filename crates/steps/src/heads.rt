@@ -12,7 +12,7 @@ use promise::MOST_CLASSES;
 #[derive(Clone, Copy)]
 pub struct Heads<'a> {
     pub marks: Marks<'a>,
-    pub heads: [u8; MOST_CLASSES],
+    heads: [u8; MOST_CLASSES],
     pub ghost found: { HeadsFound marks.classes marks.bytes.now heads },
 }
 
@@ -65,7 +65,7 @@ impl<'a> Heads<'a> {
     }
 
     // Whether a is its own head.
-    pub fn is_head(&self, a: usize) -> bool
+    pub(crate) fn is_head(&self, a: usize) -> bool
         requires { a < self.now.marks.classes }
         ensures { (result ≡ true) ↔ Head self.now.marks.classes self.now.marks.bytes.now a }
     {
@@ -73,7 +73,7 @@ impl<'a> Heads<'a> {
     }
 
     // Whether c is a head above a, and not a itself. Few classes are above one, so that is asked first.
-    pub fn is_above(&self, a: usize, c: usize) -> bool
+    pub(crate) fn is_above(&self, a: usize, c: usize) -> bool
         requires { (a < self.now.marks.classes) × (c < self.now.marks.classes) }
         ensures { (result ≡ true) ↔ HeadAbove self.now.marks.classes self.now.marks.bytes.now a c }
     {

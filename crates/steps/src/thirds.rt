@@ -1,7 +1,6 @@
 // The direct steps from one head, to the classes above it with no third head between.
-ghost use Rattle.std.specs.Prelude.{◌≡◌, ◌↔◌, true, ◌<◌, ◌≤◌, length};
+ghost use Rattle.std.specs.Prelude.{◌≡◌, ◌↔◌, true, ◌<◌};
 ghost use Rattle.promise.specs.Hierarchy.{Head, Direct};
-ghost use Rattle.marks.specs.Shape.{RowOf};
 ghost use Rattle.steps.specs.Between.{RowAdded, ThirdAdded, ThirdsOf};
 
 use crate::heads::Heads;
@@ -13,7 +12,7 @@ use promise::MOST_CLASSES;
 pub struct StepsFrom<'h, 'a> {
     pub heads: &'h Heads<'a>,
     pub from: usize,
-    pub thirds: [bool; MOST_CLASSES],
+    thirds: [bool; MOST_CLASSES],
     pub ghost head: { Head heads.now.marks.classes heads.now.marks.bytes.now from },
     pub ghost between: { ThirdsOf heads.now.marks.classes heads.now.marks.bytes.now from thirds },
 }

@@ -1,5 +1,6 @@
--- `steps::heads::Heads::list_steps` meets its contract: the direct steps passed are noted.
+-- `steps::heads::Heads::list_steps` meets its contract: the direct steps passed are noted, and they are few.
 -- Assumes nothing.
+use Rattle.std.proofs.Common.{◌+◌, ◌*◌, ◌≤◌}
 use Rattle.promise.specs.Hierarchy.{Direct}
 use Rattle.promise.proofs.Hierarchy.{dec_direct}
 use Rattle.buffers.proofs.Noting.{SoFar}
@@ -7,10 +8,18 @@ use Rattle.steps.proofs.heads.Heads.list_steps.Given as goal
 
 abbrev pub invariant-loop-b : goal.invariant-loop-b
 invariant-loop-b l =
-    let m = l.self.marks in
-    SoFar (Direct m.classes m.bytes.now) (dec_direct m.classes m.bytes.now) m.classes l.fn.steps l.count l.steps l.a l.b
+    let n = l.self.marks.classes in
+    let t = l.self.marks.bytes.now in
+    record {
+      few : l.count ≤ 128 * l.a + l.b;
+      noted : SoFar (Direct n t) (dec_direct n t) n l.fn.steps l.count l.steps l.a l.b;
+    }
 
 abbrev pub invariant-loop-a : goal.invariant-loop-a
 invariant-loop-a l =
-    let m = l.self.marks in
-    SoFar (Direct m.classes m.bytes.now) (dec_direct m.classes m.bytes.now) m.classes l.fn.steps l.count l.steps l.a 0
+    let n = l.self.marks.classes in
+    let t = l.self.marks.bytes.now in
+    record {
+      few : l.count ≤ 128 * l.a;
+      noted : SoFar (Direct n t) (dec_direct n t) n l.fn.steps l.count l.steps l.a 0;
+    }
