@@ -1,6 +1,4 @@
 // The calls: what each draws, the call itself on the bytes that are lent to it, its line, and what is kept after it.
-ghost use Rattle.std.specs.Prelude.{◌<◌, ◌≤◌};
-
 use crate::draws::Fact;
 use crate::given::{Given, Sizes, untested};
 use crate::shown::{Counted, Digest, Next, Replied};
@@ -32,6 +30,7 @@ impl Sweep {
         self.change('F', given, |_, table| dawnhangra::fresh(classes, table))
     }
 
+    // A fact is told.
     pub fn tell(&mut self, given: Given, fact: Fact) -> io::Result<()> {
         self.change('T', given, |session, table| {
             dawnhangra::tell(session, table, fact.lower, fact.upper, fact.holds)
@@ -39,6 +38,7 @@ impl Sweep {
         Ok(())
     }
 
+    // A fact is given as an answer.
     pub fn answer(&mut self, given: Given, fact: Fact) -> io::Result<()> {
         self.change('A', given, |session, table| {
             dawnhangra::answer(session, table, fact.lower, fact.upper, fact.holds)
@@ -46,8 +46,9 @@ impl Sweep {
         Ok(())
     }
 
+    // A clip, whose flags are drawn.
     pub fn clip(&mut self, given: Given, sizes: Sizes) -> io::Result<()> {
-        let clip = self.draw_clip(sizes.classes);
+        let clip = self.draw_clip(sizes);
         self.change(
             'C',
             given,
@@ -58,18 +59,17 @@ impl Sweep {
 
     // Now and then any set of classes, otherwise those that a row of the table has a yes for. Now and then one class
     // more, which there is not.
-    fn draw_clip(&mut self, classes: usize) -> Clip
-        requires { (0 < classes) × (classes ≤ 128) }
-    {
+    fn draw_clip(&mut self, sizes: Sizes) -> Clip {
+        let n = sizes.classes;
         let mut played = if self.draws.below(4) == 0 {
-            array::from_fn(|class| class < classes && self.draws.verdict())
+            array::from_fn(|class| class < n && self.draws.verdict())
         } else {
-            let start = self.draws.below(classes) * classes;
-            let row = &self.table[start..start + classes];
+            let start = self.draws.below(n) * n;
+            let row = &self.table[start..start + n];
             array::from_fn(|class| row.get(class) == Some(&1))
         };
-        if classes < MOST_CLASSES && self.draws.below(8) == 0 {
-            played[classes + self.draws.below(MOST_CLASSES - classes)] = true;
+        if n < MOST_CLASSES && self.draws.below(8) == 0 {
+            played[n + self.draws.below(MOST_CLASSES - n)] = true;
         }
         Clip { played }
     }
@@ -88,6 +88,7 @@ impl Sweep {
         Ok(true)
     }
 
+    // How many pairs are open.
     pub fn open_pairs(&mut self, given: Given) -> io::Result<()> {
         let lent = &self.table[..given.lent];
         let counted = dawnhangra::open_pairs(given.session, lent);
@@ -96,6 +97,8 @@ impl Sweep {
         Ok(())
     }
 
+    // Onto heads and steps. Here and below as_mut_slice makes a slice of the buffer before a part of it is lent: the check
+    // has no rule for `&mut self.heads[..heads]` beside another field that is lent.
     pub fn hierarchy(&mut self, given: Given, sizes: Sizes) -> io::Result<()> {
         let n = sizes.classes;
         let heads = self
@@ -118,9 +121,10 @@ impl Sweep {
         Ok(())
     }
 
+    // Onto heads.
     pub fn ladder(&mut self, given: Given, sizes: Sizes) -> io::Result<()> {
         let n = sizes.classes;
-        let (lower, upper) = self.draws.pair(n);
+        let (lower, upper) = self.draws.pair(sizes);
         let rungs = self.draws.few(3).unwrap_or_else(|| n + self.draws.below(2));
         let lent = &self.table[..given.lent];
         let rungs = &mut self.heads.as_mut_slice()[..rungs];
@@ -130,6 +134,7 @@ impl Sweep {
         Ok(())
     }
 
+    // Onto book.
     pub fn write(&mut self, given: Given, sizes: Sizes) -> io::Result<()> {
         let longest = 10 + 2 * sizes.marks();
         let room = self.draws.few(longest).unwrap_or(longest);

@@ -1,6 +1,9 @@
 // Drawing numbers.
 ghost use Rattle.std.specs.Prelude.{◌<◌, ◌≤◌, length, IfSome};
 
+use crate::given::Sizes;
+
+// Each state of the draws is below this.
 const MODULUS: u32 = 2147483647;
 
 // What tell and answer are given.
@@ -18,6 +21,7 @@ pub struct Draws {
 }
 
 impl Draws {
+    // The state that a seed says.
     pub fn start(seed: u32) -> Draws {
         Draws {
             state: seed % (MODULUS - 1) + 1,
@@ -42,27 +46,26 @@ impl Draws {
     }
 
     // A class number, now and then one that there is not.
-    fn class(&mut self, classes: usize) -> usize
-        requires { (0 < classes) × (classes ≤ 128) }
-    {
+    fn class(&mut self, sizes: Sizes) -> usize {
         let bound = if self.below(8) == 0 {
-            classes + 1
+            sizes.classes + 1
         } else {
-            classes
+            sizes.classes
         };
         self.below(bound)
     }
 
-    pub fn pair(&mut self, classes: usize) -> (usize, usize)
-        requires { (0 < classes) × (classes ≤ 128) }
-    {
-        (self.class(classes), self.class(classes))
+    // Two class numbers.
+    pub fn pair(&mut self, sizes: Sizes) -> (usize, usize) {
+        (self.class(sizes), self.class(sizes))
     }
 
+    // Yes or no.
     pub fn verdict(&mut self) -> bool {
         self.below(2) == 1
     }
 
+    // A fact on a pair, with a verdict that is drawn.
     pub fn verdict_on(&mut self, lower: usize, upper: usize) -> Fact {
         Fact {
             lower,
@@ -71,10 +74,9 @@ impl Draws {
         }
     }
 
-    pub fn fact(&mut self, classes: usize) -> Fact
-        requires { (0 < classes) × (classes ≤ 128) }
-    {
-        let (lower, upper) = self.pair(classes);
+    // A fact on a pair that is drawn.
+    pub fn fact(&mut self, sizes: Sizes) -> Fact {
+        let (lower, upper) = self.pair(sizes);
         self.verdict_on(lower, upper)
     }
 

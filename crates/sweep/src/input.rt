@@ -1,14 +1,16 @@
 // The three numbers of standard input.
 
+// Numbers are taken modulo this as their digits are read.
 const MODULUS: u64 = 1000000007;
 
+// The seed, the count of rounds and the most classes.
 pub struct Input {
     pub seed: u32,
     pub rounds: u32,
     pub most: u32,
 }
 
-// The number that a run of digits says.
+// The number that a run of digits says. The low half of a digit's byte is the digit.
 fn number(digits: &[u8]) -> u32 {
     digits.iter().fold(0, |number: u32, digit| {
         ((u64::from(number) * 10 + u64::from(*digit & 0x0f)) % MODULUS) as u32

@@ -20,6 +20,7 @@ fn most_classes(asked: u32) -> usize
 }
 
 impl Sweep {
+    // So many rounds.
     pub fn rounds(&mut self, count: u32, most: u32) -> io::Result<()> {
         let most = most_classes(most);
         for _ in 0..count {
@@ -28,6 +29,7 @@ impl Sweep {
         Ok(())
     }
 
+    // A round of up to so many classes.
     fn round(&mut self, most: usize) -> io::Result<()>
         requires { (0 < most) × (most ≤ 128) }
     {
@@ -80,11 +82,11 @@ impl Sweep {
         let given = self.troubled(sizes);
         match self.draws.below(19) {
             0..=4 => {
-                let fact = self.draws.fact(sizes.classes);
+                let fact = self.draws.fact(sizes);
                 self.tell(given, fact)
             }
             5..=8 => {
-                let fact = self.draws.fact(sizes.classes);
+                let fact = self.draws.fact(sizes);
                 self.answer(given, fact)
             }
             9 | 10 => self.next(given, sizes).map(drop),

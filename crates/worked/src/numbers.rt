@@ -12,7 +12,7 @@ pub struct Numbers {
     ghost within: { count ≤ 32 },
 }
 
-// What a run of digits says.
+// What a run of digits says, modulo 256. The low half of a digit's byte is the digit.
 fn number(digits: &[u8]) -> u8 {
     digits.iter().fold(0, |value: u8, digit| {
         value.wrapping_mul(10).wrapping_add(*digit & 0x0f)
@@ -20,6 +20,7 @@ fn number(digits: &[u8]) -> u8 {
 }
 
 impl Numbers {
+    // Each run of digits is a number, whatever stands between.
     pub fn of(line: &[u8]) -> Numbers {
         let mut numbers = Numbers {
             given: [0; MOST],
@@ -40,6 +41,7 @@ impl Numbers {
         }
     }
 
+    // All that the line has.
     pub fn as_slice(&self) -> &[u8]
         ensures { length result.now ≤ 32 }
     {

@@ -23,14 +23,17 @@ use crate::shown::{Bytes, Counted, Next, Replied, Rows};
 use promise::{Clip, MOST_CLASSES, Refusal, RefusedBook, Session};
 use std::io;
 
+// The bytes of the table, for 128 classes.
 const TABLE: usize = 16384;
 
+// What a session is before one is made, and what a refused fresh gives back.
 const NO_SESSION: Session = Session {
     classes: 0,
     tests: 0,
 };
 
-// How many bytes of the table are lent to calls, at most all.
+// How many bytes of the table are lent to calls, at most all. It stands apart, since the check has no rule for lending
+// a part of an array beside a ghost field.
 #[derive(Clone, Copy)]
 struct Lent {
     count: usize,
@@ -45,6 +48,7 @@ pub struct Runner {
     lent: Lent,
 }
 
+// A session made by hand.
 fn session_of(classes: u8, tests: u8) -> Session {
     Session {
         classes: classes.into(),
@@ -118,6 +122,7 @@ impl Runner {
         self.table[..count].copy_from_slice(given);
     }
 
+    // The part of the table that is lent.
     fn lent(&self) -> &[u8] {
         &self.table[..self.lent.count]
     }
@@ -134,14 +139,12 @@ impl Runner {
         rt.write_all(line)?;
         let session = self.session;
         let replied = call(session, &mut self.table[..self.lent.count]);
-        self.reply(
-            rt,
-            replied.map_err(|why| RefusedBook {
-                why,
-                place: 0,
-                session,
-            }),
-        )
+        let replied = replied.map_err(|why| RefusedBook {
+            why,
+            place: 0,
+            session,
+        });
+        self.reply(rt, replied)
     }
 
     // fresh is given no session: where it is refused there is none.
@@ -154,13 +157,14 @@ impl Runner {
         )
     }
 
+    // A book is read onto the table.
     fn read(&mut self, rt: &impl Print, book: &[u8]) -> io::Result<()> {
         rt.write_all(b"read")?;
         let replied = dawnhangra::read(book, &mut self.table[..self.lent.count]);
         self.reply(rt, replied)
     }
 
-    // What a call replied, how many marks are open, what next asks then, and the marks.
+    // What a call replied, how many marks are open, which 01 writes as 0, what next asks then, and the marks.
     fn reply(&mut self, rt: &impl Print, replied: Result<Session, RefusedBook>) -> io::Result<()> {
         let session = replied.unwrap_or_else(|refused| refused.session);
         self.session = session;
@@ -174,7 +178,7 @@ impl Runner {
         println!(rt; ": {} open {open}{}{rows}", Replied(replied), Next(next))
     }
 
-    // The buffers that a call writes to start as nines, so that bytes left alone show.
+    // What hierarchy gave. The buffers that a call writes to start as nines, so that bytes left alone show.
     fn hierarchy(&self, rt: &impl Print, heads: u8, steps: u8) -> io::Result<()> {
         let mut heads_room = [9; 256];
         let mut steps_room = [9; 256];
@@ -189,6 +193,7 @@ impl Runner {
         )
     }
 
+    // What ladder gave from a to b.
     fn ladder(&self, rt: &impl Print, a: u8, b: u8, rungs: u8) -> io::Result<()> {
         let mut room = [9; 256];
         let rungs = &mut room[..usize::from(rungs)];
@@ -196,6 +201,7 @@ impl Runner {
         println!(rt; "ladder {a} {b}:{} rungs{}", Counted(counted), Bytes(rungs))
     }
 
+    // What write gave.
     fn write(&self, rt: &impl Print, out: u8) -> io::Result<()> {
         let mut room = [9; 256];
         let out = &mut room[..usize::from(out)];
@@ -203,6 +209,7 @@ impl Runner {
         println!(rt; "write:{} bytes{}", Counted(counted), Bytes(out))
     }
 
+    // What open_pairs gave.
     fn open_pairs(&self, rt: &impl Print) -> io::Result<()> {
         let counted = dawnhangra::open_pairs(self.session, self.lent());
         println!(rt; "open_pairs:{}", Counted(counted))
