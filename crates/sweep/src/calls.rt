@@ -97,8 +97,8 @@ impl Sweep {
         Ok(())
     }
 
-    // Onto heads and steps. Here and below as_mut_slice makes a slice of the buffer before a part of it is lent: the check
-    // has no rule for `&mut self.heads[..heads]` beside another field that is lent.
+    // Onto heads and steps. Here and below as_mut_slice makes a slice of the buffer before a part of it is lent: the
+    // check has no rule for `&mut self.heads[..heads]` beside another field that is lent.
     pub fn hierarchy(&mut self, given: Given, sizes: Sizes) -> io::Result<()> {
         let n = sizes.classes;
         let heads = self
