@@ -26,7 +26,6 @@ pub fn read(book: &[u8], table: &mut [u8]) -> Result<Session, RefusedBook>
     let mut stage = Stage::Start;
     let mut at = 0;
     // Each head says where the next field begins, so no range gives the places beforehand.
-    // How far it is to the next field, each says itself.
     while at < book.len() {
         let field = Field {
             place: at,
