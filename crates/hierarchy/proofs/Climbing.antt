@@ -6,8 +6,7 @@ use Rattle.std.specs.Option.{MatchOption}
 use native.Mathlib.Decide.{dec_lt}
 use Rattle.order.specs.Tables.{Sound}
 use Rattle.promise.specs.Hierarchy.{Under, HeadOf, Direct, NextRung, Ladder}
-use Rattle.promise.proofs.Hierarchy.{head_unique}
-use Rattle.promise.proofs.Ladder.{to_go, rung_falls, rung_there, head_of_equal}
+use Rattle.promise.proofs.Ladder.{to_go, rung_falls, rung_there}
 use Rattle.buffers.specs.Placed.{Placed}
 use Rattle.buffers.proofs.Placing.{placed_before, put_none, put_one}
 use Rattle.hierarchy.specs.Climb.{BelowGoal, Reached, Climbed}
@@ -102,16 +101,6 @@ module _
     {n : ℕ} {t : List ℕ} {goal rung before top : ℕ} (sound : Sound n t) (r : Reached n t goal rung before)
     (h : HeadOf n t goal top)
   where
-    -- at the goal's head the ladder ends; below it there is a next rung
-    pub not_top : ¬ (rung ≡ top) → BelowGoal n t goal rung
-    not_top differ =
-        record {
-          goal_below = r.goal_below;
-          head = r.head;
-          under = r.under;
-          not_yet = λ back. differ (head_unique (head_of_equal n t sound r.goal_below r.head r.under back) h);
-        }
-
     -- "the number of heads strictly above the rung and under the goal falls"
     pub next_reached : {next : ℕ} → NextRung n t goal rung next → Reached n t goal next (before + 1)
     next_reached {next} d =

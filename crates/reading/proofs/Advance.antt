@@ -3,7 +3,6 @@
 -- Assumes nothing.
 use mathlib.Core.Path.{◌≡◌, refl, sym, ◌∙◌, ap, subst}
 use mathlib.Core.Logic.{◌≢◌, inl, inr}
-use mathlib.Core.Bool.{false≢true}
 use mathlib.Core.List.{List, [], ◌∷◌, ◌++◌}
 use Prim.Native.Nat.{ℕ, zero, suc, ◌+◌, ◌*◌, ◌/◌, ◌%◌, ◌≤◌, ◌<◌}
 use native.Mathlib.Nat.{suc-mul, add_assoc, div-add-mod'}
@@ -12,13 +11,13 @@ use lib.ListN.{length, get_or, drop}
 use lib.Seq.{drop-drop}
 use Rattle.promise.specs.Refusals.{First, standing}
 use Rattle.promise.specs.declared.Stage.{Stage}
-use Rattle.promise.specs.declared.Stage.TheVariants.{Start, Begun}
+use Rattle.promise.specs.declared.Stage.TheVariants.{Begun}
 use Rattle.promise.specs.declared.Session.{Session}
 use Rattle.promise.specs.declared.Reply.{Reply}
 use Rattle.promise.specs.Calls.{no_session, reply, accepted}
-use Rattle.promise.specs.Book.{once_begun, row_of, size_of, field_refusals, Item, facts_from, stage_behind}
+use Rattle.promise.specs.Book.{row_of, size_of, field_refusals, Item, facts_from, stage_behind}
 use Rattle.promise.specs.Book.{items_of, Follows, BookRead}
-use Rattle.promise.proofs.Items.{items_at, items_start, items_end, items_field}
+use Rattle.promise.proofs.Items.{items_at, items_end, items_field}
 use Rattle.promise.proofs.Book.{ends_within, stage_behind_field}
 use Rattle.reading.specs.declared.tags.Facts.{Facts}
 use Rattle.reading.specs.declared.tags.Facts.TheVariants.{Told, Answered}
@@ -155,14 +154,6 @@ pub record FieldsLeft (book t₀ : List ℕ) (at : ℕ) (stage : Stage) (s : Ses
   pub stands : stage ≡ Begun → First (standing s t []) 0
   pub all : (r : Reply) (t' : List ℕ) → Follows (items_at book stage at) s t r t'
       → Follows (items_of book) no_session t₀ r t'
-
-pub fields_left : (book t : List ℕ) → length book ≢ 0 → FieldsLeft book t 0 Start no_session t
-fields_left book t some =
-    record {
-      within = omega arith;
-      stands = λ e. absurd (false≢true (ap once_begun e));
-      all = λ r t' f. subst (λ (items : List Item). Follows items no_session t r t') (sym (items_start book some)) f;
-    }
 
 -- "book empty"
 pub read_empty : (book t : List ℕ) → length book ≡ 0 → BookRead book t (reply 12 0 no_session) t

@@ -1,13 +1,11 @@
 -- The heads that were found: the lowest class equal to a class, the heads of all, and which classes are heads.
 -- Assumes nothing.
-use Rattle.std.proofs.Common.{◌≡◌, ◌↔◌, ◌≢◌, ◌+◌, ◌≤◌, ◌<◌, ℕ, List, length, get_or, arith, Option, Some, None}
+use Rattle.std.proofs.Common.{◌≢◌, ◌+◌, ◌≤◌, ◌<◌, ℕ, List, length, get_or, arith, Option, Some, None}
 use Rattle.std.proofs.Common.{set, get_or-set_other, get_or-set_same, below_more}
 use Rattle.std.specs.Option.{MatchOption, unwrap_or}
 use native.Mathlib.Decide.{dec_lt}
 use Rattle.order.specs.Tables.{Sound}
-use Rattle.promise.specs.Hierarchy.{Equal, HeadOf, Head}
-use Rattle.promise.proofs.Hierarchy.{head_unique}
-use Rattle.steps.specs.HeadsFound.{HeadsFound}
+use Rattle.promise.specs.Hierarchy.{Equal, HeadOf}
 
 -- the first class below a that is equal to a, or a itself
 pub first_equal :
@@ -37,7 +35,3 @@ stored_more P xs i x d below before here =
     below_more (λ k. P k (get_or (set xs i x) k d)) i
     (λ k l. let other : k ≢ i = omega arith in rw get_or-set_other (before k l))
     (rw get_or-set_same here)
-
--- a class is a head exactly where it is its own
-pub head_at : {n : ℕ} {t heads : List ℕ} {a : ℕ} → HeadsFound n t heads → a < n → (get_or heads a 0 ≡ a) ↔ Head n t a
-head_at {n} {t} {heads} {a} f h = (λ e. rw e at (f.at a h), λ p. head_unique (f.at a h) p)
