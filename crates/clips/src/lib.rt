@@ -39,7 +39,7 @@ fn take_clip(
         return Err(Refusal::Contradicted);
     }
     let others = non_members(classes, played);
-    passes::spread(classes, table, played, &others, Mark::No);
+    passes::spread(classes, table, played, &others, Mark::No as u8);
     Ok(session)
 }
 

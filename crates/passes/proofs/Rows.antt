@@ -12,8 +12,6 @@ use lib.ListN.{length, get_or, take, drop, length-take, length-drop}
 use lib.Seq.{get_or-take, get_or-drop}
 use Rattle.std.proofs.lemmas.List.{places}
 use Rattle.std.proofs.lemmas.Nat.{row_fits}
-use Rattle.marks.specs.Bytes.{byte_of}
-use Rattle.marks.specs.declared.Mark.{Mark}
 use Rattle.order.specs.Tables.{mark, SameRest}
 use Rattle.promise.specs.Clips.{Flagged}
 use Rattle.passes.specs.Spread.{Becomes, RowMarked}
@@ -45,8 +43,8 @@ outside n x a y hy ne = go (dec_lt a x)
 
 -- row x is marked
 pub row_changed :
-    {n x k : ℕ} {ys : List Bool} {v : Mark} {t row : List ℕ} → n * n ≤ length t → x < n → k ≡ n
-    → RowMarked ys v (take k (drop (x * n) t)) row → RowChanged n x ys (byte_of v) t (put_mid (x * n) k t row)
+    {n x k : ℕ} {ys : List Bool} {v : ℕ} {t row : List ℕ} → n * n ≤ length t → x < n → k ≡ n
+    → RowMarked ys v (take k (drop (x * n) t)) row → RowChanged n x ys v t (put_mid (x * n) k t row)
 unfolding mark
 row_changed {n} {x} {k} {ys} {v} {t} {row} room hx wide h =
     let within : x * n + n ≤ n * n = row_fits x n n n hx (omega arith) in

@@ -1,8 +1,6 @@
 -- Lines of a table as flags, and a pass over the pairs of two of them.
 -- Assumes nothing.
 use Rattle.std.specs.Prelude.{◌≡◌, ◌↔◌, ◌⊎◌, Bool, List, ℕ, ◌<◌, length, get_or}
-use Rattle.marks.specs.Bytes.{byte_of}
-use Rattle.marks.specs.declared.Mark.{Mark}
 use Rattle.order.specs.Tables.{mark, SameRest}
 use Rattle.promise.specs.Clips.{Flagged}
 
@@ -15,10 +13,10 @@ abbrev pub Becomes : Type 0 → ℕ → ℕ → ℕ → Type 0
 Becomes P v m m' = (P × (m' ≡ v)) ⊎ ((¬ P) × (m' ≡ m))
 
 -- every flagged byte of a row has become v, and every other is as before
-pub record RowMarked (flags : List Bool) (v : Mark) (row row' : List ℕ) : Type 0 where
+pub record RowMarked (flags : List Bool) (v : ℕ) (row row' : List ℕ) : Type 0 where
   pub size : length row ≡ length row'
   pub each :
-      (y : ℕ) → y < length row → Becomes (Flagged flags y) (byte_of v) (get_or row y 0) (get_or row' y 0)
+      (y : ℕ) → y < length row → Becomes (Flagged flags y) v (get_or row y 0) (get_or row' y 0)
 
 -- every pair of P has become v, every other is marked as before, and no byte from n*n on is changed
 pub record Spread (n : ℕ) (P : ℕ → ℕ → Type 0) (v : ℕ) (t t' : List ℕ) : Type 0 where

@@ -7,7 +7,6 @@ mod flags;
 
 ghost use Rattle.std.specs.Prelude.{◌≤◌, length};
 ghost use Rattle.order.specs.Facts.{under, not_under};
-ghost use Rattle.marks.specs.Bytes.{byte_of};
 ghost use Rattle.marks.specs.Shape.{Shape};
 ghost use Rattle.promise.specs.Clips.{Flagged};
 ghost use Rattle.passes.specs.Spread.{RowMarked, Spread};
@@ -20,26 +19,25 @@ use promise::MOST_CLASSES;
 // Each flagged byte of a row becomes v. Each byte is stored, changed or not, since a loop without branches becomes
 // vector code. The flag is read by its index: a proof knows no element that a loop over `iter_mut().zip(ys)` has
 // written.
-fn mark_row(row: &mut [u8], ys: &[bool; MOST_CLASSES], v: Mark)
+fn mark_row(row: &mut [u8], ys: &[bool; MOST_CLASSES], v: u8)
     requires { length row.old ≤ 128 }
     ensures { RowMarked ys.now v row.old row.new }
 {
     for (y, mark) in row.iter_mut().enumerate() {
-        *mark = if ys[y] { v as u8 } else { *mark };
+        *mark = if ys[y] { v } else { *mark };
     }
 }
 
-// (x, y) becomes v for every flagged x and every flagged y.
+// (x, y) becomes v, any byte, for every flagged x and every flagged y.
 pub fn spread(
     n: usize,
     table: &mut [u8],
     xs: &[bool; MOST_CLASSES],
     ys: &[bool; MOST_CLASSES],
-    v: Mark,
+    v: u8,
 )
     requires { Shape n table.old }
-    ensures { Spread n (λ a b. Flagged xs.now a × Flagged ys.now b) (byte_of v)
-        table.old table.new }
+    ensures { Spread n (λ a b. Flagged xs.now a × Flagged ys.now b) v table.old table.new }
 {
     // The same holds of rows by `chunks_exact_mut`.
     for x in 0..n {
@@ -64,9 +62,9 @@ pub fn take_yes(n: usize, table: &mut [u8], a: usize, b: usize)
     let above_b = row_flags(&marks, b, Mark::Yes);
     let not_above_a = row_flags(&marks, a, Mark::No);
     let not_under_b = column_flags(&marks, b, Mark::No);
-    spread(n, table, &under_a, &above_b, Mark::Yes);
-    spread(n, table, &above_b, &not_above_a, Mark::No);
-    spread(n, table, &not_under_b, &under_a, Mark::No);
+    spread(n, table, &under_a, &above_b, Mark::Yes as u8);
+    spread(n, table, &above_b, &not_above_a, Mark::No as u8);
+    spread(n, table, &not_under_b, &under_a, Mark::No as u8);
 }
 
 // c is not under d. What is above c is not under what is under d.
@@ -80,5 +78,5 @@ pub fn take_no(n: usize, table: &mut [u8], c: usize, d: usize)
     };
     let above_c = row_flags(&marks, c, Mark::Yes);
     let under_d = column_flags(&marks, d, Mark::Yes);
-    spread(n, table, &above_c, &under_d, Mark::No);
+    spread(n, table, &above_c, &under_d, Mark::No as u8);
 }

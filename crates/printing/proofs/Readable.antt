@@ -3,6 +3,7 @@
 use Rattle.std.proofs.Common.{◌≡◌, ℕ, ◌*◌, ◌≤◌, List, [], take, Result, Ok, Err, MatchResult, refl, arith}
 use Rattle.std.proofs.Common.{length-take-le}
 use Rattle.order.proofs.Bytes.{front_marks}
+use Rattle.promise.specs.declared.Reply.{Reply}
 use Rattle.promise.specs.declared.Session.{Session}
 use Rattle.promise.specs.declared.RefusedBook.{RefusedBook}
 use Rattle.promise.specs.Refusals.{First, standing}
@@ -13,6 +14,15 @@ use Rattle.promise.proofs.Standing.{Stands, first_stands, stands_by_marks, squar
 use Rattle.promise.proofs.Taking.{stands_of}
 use Rattle.promise.proofs.Runs.{fresh_run_stands}
 use Rattle.promise.proofs.Read.{ReadAs, read_run}
+
+-- the class count is at most 128, of a refused book too
+pub few_classes : {book t : List ℕ} {r : Reply} {t' : List ℕ} → BookRead book t r t' → r.session.classes ≤ 128
+few_classes {book} {t} {r} {t'} h = go (read_run h)
+  where
+    go : ReadAs book t r t' → r.session.classes ≤ 128
+    go (ReadAs.not_begun k p none same why) = rw none (omega arith)
+    go (ReadAs.whole k p right run) = (stands_of (fresh_run_stands run)).few
+    go (ReadAs.cut k right run stop) = (stands_of (fresh_run_stands run)).few
 
 -- the table of an accepted book stands
 accepted_stands : {book t : List ℕ} {s : Session} {t' : List ℕ} → BookRead book t (accepted s) t' → Stands s t'
@@ -29,7 +39,7 @@ Lent r n = MatchResult r (λ s. n ≡ s.classes) (λ _. n ≡ 0)
 
 module _ {book t t' : List ℕ} (n : ℕ) where
   pub few_marks : (r : Result Session RefusedBook) → Lent r n → BookRead book t (reply_of_read r) t' → n * n ≤ 16384
-  few_marks (Ok s) e h = square n (omega (arith, e, (accepted_stands h).few))
+  few_marks (Ok s) e h = square n (omega (arith, e, few_classes h))
   few_marks (Err refused) e h = rw e (omega arith)
 
   -- the marks of an accepted book's table can be used

@@ -1,4 +1,4 @@
--- What the soundness test looks at: every mark, and of each class the diagonal and its row beside each row.
+-- What the soundness test looks at: every mark, the diagonal, and the rows of the two classes of each pair.
 -- Assumes nothing.
 use Rattle.std.specs.Prelude.{◌≡◌, ◌≢◌, Bool, true, false, ◌&&◌, ◌||◌, not, List, ℕ, ◌*◌, ◌≤◌, ◌<◌, eqb, get_or}
 use Rattle.order.specs.Tables.{mark}
@@ -6,6 +6,10 @@ use Rattle.order.specs.Tables.{mark}
 -- the n*n marks are 0, 1 or 2
 pub record SmallMarks (n : ℕ) (t : List ℕ) : Type 0 where
   pub at : (i : ℕ) → i < n * n → get_or t i 0 ≤ 2
+
+-- the diagonal is yes
+pub record DiagonalYes (n : ℕ) (t : List ℕ) : Type 0 where
+  pub at : (a : ℕ) → a < n → mark n t a a ≡ 1
 
 -- what soundness asks of a pair (a, b) where one class is marked x in the row of a and y in the row of b. A yes pair:
 -- if b is under the class so is a, and if a is not under it neither is b. An open pair: b is not under it if a is not.
@@ -27,7 +31,6 @@ pub record PairStands (n : ℕ) (t : List ℕ) (a b : ℕ) : Type 0 where
   pub yes_pair : mark n t a b ≡ 1 → RowsAgree n t true a b
   pub open_pair : mark n t a b ≡ 0 → RowsAgree n t false a b
 
--- what soundness asks of a class: that it is under itself, and what is asked of it and each class
+-- what soundness asks of a class and each class
 pub record ClassStands (n : ℕ) (t : List ℕ) (a : ℕ) : Type 0 where
-  pub diagonal : mark n t a a ≡ 1
   pub pairs : (b : ℕ) → b < n → PairStands n t a b

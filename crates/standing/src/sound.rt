@@ -1,7 +1,7 @@
 // Whether a table is sound. Each pair is looked at with the rows of its two classes, a whole row at a time.
 ghost use Rattle.std.specs.Prelude.{◌≡◌, ◌↔◌, true, ◌<◌};
 ghost use Rattle.order.specs.Tables.{Sound};
-ghost use Rattle.standing.specs.Soundness.{against, SmallMarks, RowsAgree, PairStands, ClassStands};
+ghost use Rattle.standing.specs.Soundness.{against, SmallMarks, DiagonalYes, RowsAgree, PairStands, ClassStands};
 
 use marks::{Mark, Marks};
 
@@ -13,6 +13,13 @@ fn marks_small(marks: &Marks<'_>) -> bool
         .all()
         .iter()
         .fold(false, |wrong, mark| wrong | (*mark > Mark::No as u8))
+}
+
+// Whether the diagonal is yes.
+fn diagonal_yes(marks: &Marks<'_>) -> bool
+    ensures { (result ≡ true) ↔ DiagonalYes marks.now.classes marks.now.bytes.now }
+{
+    (0..marks.classes).all(|a| marks.under(a, a))
 }
 
 // Whether what a and b are marked with at one class speaks against the pair (a, b): against a yes, or against leaving
@@ -54,17 +61,18 @@ fn pair_stands(marks: &Marks<'_>, a: usize, b: usize) -> bool
     }
 }
 
-// Whether a is under itself, and what soundness asks of a and each class holds.
+// Whether what soundness asks of a and each class holds.
 fn class_stands(marks: &Marks<'_>, a: usize) -> bool
     requires { a < marks.now.classes }
     ensures { (result ≡ true) ↔ ClassStands marks.now.classes marks.now.bytes.now a }
 {
-    marks.under(a, a) && (0..marks.classes).all(|b| pair_stands(marks, a, b))
+    (0..marks.classes).all(|b| pair_stands(marks, a, b))
 }
 
-// Whether the table is sound.
+// Whether the table is sound. The diagonal is looked at before all rows, so that a table that is wrong there is refused
+// after a look at each class.
 pub fn is_sound(marks: &Marks<'_>) -> bool
     ensures { (result ≡ true) ↔ Sound marks.now.classes marks.now.bytes.now }
 {
-    marks_small(marks) && (0..marks.classes).all(|a| class_stands(marks, a))
+    marks_small(marks) && diagonal_yes(marks) && (0..marks.classes).all(|a| class_stands(marks, a))
 }

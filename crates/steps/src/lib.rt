@@ -6,4 +6,4 @@ mod heads;
 mod thirds;
 
 pub use heads::Heads;
-pub use thirds::StepsFrom;
+pub use thirds::{StepsFrom, find_thirds};

@@ -40,7 +40,7 @@ fn add_third(marks: &Marks<'_>, c: usize, thirds: &mut [bool; MOST_CLASSES])
 
 // The flag of b goes up exactly where a third head stands between a and b. A head whose own flag is up is passed over:
 // another third head is under it, and so under all that it is under. The loop writes the flags that it looks at.
-fn find_thirds(heads: &Heads<'_>, a: usize) -> [bool; MOST_CLASSES]
+pub fn find_thirds(heads: &Heads<'_>, a: usize) -> [bool; MOST_CLASSES]
     requires { a < heads.now.marks.classes }
     ensures { ThirdsOf heads.now.marks.classes heads.now.marks.bytes.now a result }
 {

@@ -4,6 +4,7 @@
 const MODULUS: u64 = 1000000007;
 
 // The seed, the count of rounds and the most classes.
+#[derive(Clone, Copy)]
 pub struct Input {
     pub seed: u32,
     pub rounds: u32,

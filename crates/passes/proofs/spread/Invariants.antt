@@ -4,7 +4,6 @@ use mathlib.Core.Path.{◌≡◌}
 use mathlib.Core.Bool.{Bool}
 use mathlib.Core.List.{List}
 use Prim.Native.Nat.{ℕ, ◌<◌, ◌≤◌}
-use Rattle.marks.specs.Bytes.{byte_of}
 use Rattle.order.specs.Tables.{mark, SameRest}
 use Rattle.promise.specs.Clips.{Flagged}
 use Rattle.passes.specs.Spread.{Becomes}
@@ -18,4 +17,4 @@ pub record RowsMarked (n : ℕ) (xs ys : List Bool) (v k : ℕ) (t u : List ℕ)
   pub rest : SameRest n t u
 
 abbrev pub invariant-loop-x : goal.invariant-loop-x
-invariant-loop-x l = RowsMarked l.n l.xs l.ys (byte_of l.v) l.x l.fn.table l.table
+invariant-loop-x l = RowsMarked l.n l.xs l.ys l.v l.x l.fn.table l.table
