@@ -37,7 +37,7 @@ extern "C" {
 #define DAWNHANGRA_RUNGS_BYTES 128
 #define DAWNHANGRA_BOOK_BYTES 32522
 
-// The bytes of stack to leave for a call. As built here ladder takes up to 46,000, hierarchy 13,000, any other 1,200.
+// The bytes of stack to leave for a call. As built here hierarchy takes up to 13,000, ladder 10,000, any other 1,200.
 #define DAWNHANGRA_STACK_BYTES 65536
 
 // The marks in a table: neither is known, a is under b, a is not under b.

@@ -5,7 +5,8 @@ ghost use Rattle.hierarchy.specs.Climb.{BelowGoal, Reached, Climbed};
 use steps::Heads;
 
 // The lowest-numbered head directly above the rung and under the goal. There is one, since the rung is not the goal's
-// head.
+// head. It is called and not inlined, so that a ladder's stack holds the steps of one rung and not of each.
+#[inline(never)]
 fn next_rung(heads: &Heads<'_>, goal: usize, rung: usize) -> usize
     requires { BelowGoal heads.now.marks.classes heads.now.marks.bytes.now goal rung }
     ensures { NextRung heads.now.marks.classes heads.now.marks.bytes.now goal rung result }

@@ -15,7 +15,9 @@ fn marks_small(marks: &Marks<'_>) -> bool
         .fold(false, |wrong, mark| wrong | (*mark > Mark::No as u8))
 }
 
-// Whether the diagonal is yes.
+// Whether the diagonal is yes. It is called and not inlined: inlined it moves the loops over rows to where some
+// processors take their jumps slowly.
+#[inline(never)]
 fn diagonal_yes(marks: &Marks<'_>) -> bool
     ensures { (result ≡ true) ↔ DiagonalYes marks.now.classes marks.now.bytes.now }
 {
